@@ -1,0 +1,5 @@
+pub mod Outcome
+pub mod Observation
+pub mod Equivalent
+pub mod Follows
+pub mod Alike
