@@ -1,39 +1,84 @@
--- Worked examples of observations, which compute from the definitions alone.
-use Rattle.std.proofs.Common.{◌≡◌, ℕ, zero, suc, [], ◌∷◌, Some, None, refl}
+-- Worked examples: observations that compute from the definitions alone, and one forward simulation.
+use Rattle.std.proofs.Common.{◌≡◌, ℕ, Bool, true, false, List, [], ◌∷◌, ◌++◌, Some, None, refl, arith}
 use Rattle.event_machine.specs.Outcome.{Outcome, Went, Said, Ended}
 use Rattle.event_machine.specs.Observation.{observed}
+use Rattle.event_machine.specs.Equivalent.{Equivalent}
+use Rattle.event_machine.specs.Follows.{Follows, Both, Waits, End}
+use Rattle.event_machine.specs.Laws.{simulated, went, said, ended, stays, comes}
 
--- a counter's two endings
+-- the endings of these machines
 data Stop : Type 0 where
   Done : Stop
   Broken : Stop
 
--- a counter counts down in silence, says the number 7 on the last count, and is done
-data Count : Type 0 where
-  Left : (n : ℕ) → Count
-  Over : Count
+abbrev is_broken : Stop → Bool
+is_broken Done = false
+is_broken Broken = true
 
-abbrev count_down : Count → Outcome ℕ Stop Count
-count_down (Left zero) = Said 7 Over
-count_down (Left (suc n)) = Went (Left n)
-count_down Over = Ended Done
+-- a bell that rings in two steps: the number 7 is its sound
+data Bell : Type 0 where
+  Drawn : Bell
+  Loose : Bell
+  Still : Bell
+
+abbrev ring : Bell → Outcome ℕ Stop Bell
+ring Drawn = Went Loose
+ring Loose = Said 7 Still
+ring Still = Ended Done
 
 -- at first nothing is observed
-starts : observed count_down 0 (Left 1) ≡ record { events = []; ending = None }
+starts : observed ring 0 Drawn ≡ record { events = []; ending = None }
 starts = refl
 
--- a silent step is not observed
-silent : observed count_down 1 (Left 1) ≡ record { events = []; ending = None }
+-- a silent step shows nothing
+silent : observed ring 1 Drawn ≡ record { events = []; ending = None }
 silent = refl
 
--- an event is, and the run goes on
-says : observed count_down 2 (Left 1) ≡ record { events = 7 ∷ []; ending = None }
+-- then the event, and the run goes on
+says : observed ring 2 Drawn ≡ record { events = 7 ∷ []; ending = None }
 says = refl
 
 -- then it ends
-ends : observed count_down 3 (Left 1) ≡ record { events = 7 ∷ []; ending = Some Done }
+ends : observed ring 3 Drawn ≡ record { events = 7 ∷ []; ending = Some Done }
 ends = refl
 
 -- and stays as it is
-stays_over : observed count_down 9 (Left 1) ≡ record { events = 7 ∷ []; ending = Some Done }
-stays_over = refl
+rests : observed ring 9 Drawn ≡ record { events = 7 ∷ []; ending = Some Done }
+rests = refl
+
+-- a bell that rings at once
+data Gong : Type 0 where
+  Ready : Gong
+  Struck : Gong
+
+abbrev strike : Gong → Outcome ℕ Stop Gong
+strike Ready = Said 7 Struck
+strike Struck = Ended Done
+
+-- which states of the two stand for each other
+abbrev Rings : Bell → Gong → Type 0
+Rings Drawn Ready = Unit {0}
+Rings Loose Ready = Unit {0}
+Rings Still Struck = Unit {0}
+Rings Drawn Struck = ⊥
+Rings Loose Struck = ⊥
+Rings Still Ready = ⊥
+
+-- how many steps the bell takes while the gong stands still
+abbrev silent_steps : Bell → Gong → ℕ
+silent_steps Drawn g = 1
+silent_steps Loose g = 0
+silent_steps Still g = 0
+
+-- what both do from states that stand for each other: at Drawn only the bell moves, then both ring, then both end
+ring_follows : (s : Bell) (t : Gong) (before : List ℕ) → Rings s t → Follows is_broken ring strike Rings silent_steps s t before
+ring_follows Drawn Ready before r = Waits Loose Ready before (omega arith) (comes ring Drawn Loose before before (went ring Drawn Loose before refl)) (stays strike Ready before) tt
+ring_follows Loose Ready before r = Both Still Struck (before ++ 7 ∷ []) (said ring Loose Still 7 before refl) (said strike Ready Struck 7 before refl) tt
+ring_follows Still Struck before r = End Done before (ended ring Still Done before refl) (ended strike Struck Done before refl)
+ring_follows Drawn Struck before r = absurd r
+ring_follows Loose Struck before r = absurd r
+ring_follows Still Ready before r = absurd r
+
+-- so nobody who hears them can tell them apart
+rings_alike : Equivalent is_broken ring Drawn strike Ready
+rings_alike = simulated is_broken ring strike Rings silent_steps ring_follows Drawn Ready tt

@@ -17,11 +17,15 @@ pub record Covers {Event Ending : Type 0} (first second : Observation Event Endi
   pub events : IsPrefix second.events first.events
   pub ending : (end : Ending) → second.ending ≡ Some end → first ≡ second
 
+-- the run has come to a broken ending
+pub record IsBroken {Event Ending : Type 0} (is_broken : Ending → Bool) (o : Observation Event Ending) : Type 0 where
+  pub end : Ending
+  pub reached : o.ending ≡ Some end
+  pub judged : IsTrue (is_broken end)
+
 -- the first is broken, and its events are the beginning of the second's
 pub record Excuses {Event Ending : Type 0} (is_broken : Ending → Bool) (first second : Observation Event Ending) : Type 0 where
-  pub end : Ending
-  pub ending : first.ending ≡ Some end
-  pub broken : IsTrue (is_broken end)
+  pub broken : IsBroken is_broken first
   pub events : IsPrefix first.events second.events
 
 -- The first machine from the state s and the second machine from the state t are observationally equivalent.

@@ -3,3 +3,4 @@ pub mod Observation
 pub mod Equivalent
 pub mod Follows
 pub mod Alike
+pub mod Laws

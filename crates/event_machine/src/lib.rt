@@ -7,7 +7,7 @@
 ghost use Rattle.std.specs.Prelude.{◌≡◌, ℕ, ◌≤◌, List, Bool};
 ghost use Rattle.event_machine.specs.Outcome.{Outcome, outcome_map};
 ghost use Rattle.event_machine.specs.Observation.{observed, Grows};
-ghost use Rattle.event_machine.specs.Equivalent.{Equivalent};
+ghost use Rattle.event_machine.specs.Equivalent.{IsBroken, Equivalent};
 ghost use Rattle.event_machine.specs.Follows.{Follows};
 
 /// Within more steps more is observed of a run, and once the run has ended nothing changes any more.
@@ -26,10 +26,14 @@ pub fn pointwise<Event, Ending, S>()
         ((s : S) → first s ≡ second s) → (s : S) → Equivalent is_broken first s second s }
 {}
 
-/// A machine whose steps are those of another along a function of its states is observationally
-/// equivalent to it: so places, frames and addresses may be renamed.
+/// A machine whose steps are those of another along a function of its states: the same is observed of
+/// both within each number of steps, and they are observationally equivalent. So places, frames and
+/// addresses may be renamed.
 pub fn along_image<Event, Ending, S, T>()
-    ensures { (is_broken : Ending → Bool) (first : S → Outcome Event Ending S) (second : T → Outcome Event Ending T) (image : S → T) →
+    ensures observations { (first : S → Outcome Event Ending S) (second : T → Outcome Event Ending T) (image : S → T) →
+        ((s : S) → second (image s) ≡ outcome_map image (first s)) →
+        (s : S) (n : ℕ) → observed second n (image s) ≡ observed first n s }
+    ensures equivalent { (is_broken : Ending → Bool) (first : S → Outcome Event Ending S) (second : T → Outcome Event Ending T) (image : S → T) →
         ((s : S) → second (image s) ≡ outcome_map image (first s)) →
         (s : S) → Equivalent is_broken first s second (image s) }
 {}
@@ -49,4 +53,13 @@ pub fn forward_simulation<Event, Ending, S, T, Pair>()
         ((p : Pair) (said : List Event) → Follows is_broken first second
         (λ s t. (q : Pair) × (left q ≡ s) × (right q ≡ t)) rank (left p) (right p) said) →
         (p : Pair) → Equivalent is_broken first (left p) second (right p) }
+{}
+
+/// What a user of an equivalence gets beside its two clauses: the second machine is broken only where
+/// the first is, and where the first is never broken, the equivalence holds the other way round too.
+pub fn broken_only_by_the_first<Event, Ending, S, T>()
+    ensures broken { (is_broken : Ending → Bool) (first : S → Outcome Event Ending S) (second : T → Outcome Event Ending T) (s : S) (t : T) →
+        Equivalent is_broken first s second t → (n : ℕ) → IsBroken is_broken (observed second n t) → (m : ℕ) × IsBroken is_broken (observed first m s) }
+    ensures reversed { (is_broken : Ending → Bool) (first : S → Outcome Event Ending S) (second : T → Outcome Event Ending T) (s : S) (t : T) →
+        Equivalent is_broken first s second t → ((n : ℕ) → IsBroken is_broken (observed first n s) → ⊥) → Equivalent is_broken second t first s }
 {}

@@ -1,4 +1,4 @@
-use Rattle.event_machine.proofs.Laws.{equivalent_trans}
+use Rattle.event_machine.specs.Laws.{equivalent_trans}
 use Rattle.event_machine.proofs.composes.Goals as goal
 
 pub returns : goal.returns

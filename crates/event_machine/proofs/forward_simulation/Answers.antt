@@ -1,4 +1,4 @@
-use Rattle.event_machine.proofs.Simulation.{simulated_pairs}
+use Rattle.event_machine.specs.Laws.{simulated_pairs}
 use Rattle.event_machine.proofs.forward_simulation.Goals as goal
 
 pub returns : goal.returns

@@ -1,5 +1,5 @@
 use Rattle.std.proofs.Common.{[]}
-use Rattle.event_machine.proofs.Growth.{grows}
+use Rattle.event_machine.specs.Laws.{grows}
 use Rattle.event_machine.proofs.only_grows.Goals as goal
 
 pub returns : goal.returns

@@ -1,4 +1,4 @@
-use Rattle.event_machine.proofs.Laws.{equivalent_pointwise}
+use Rattle.event_machine.specs.Laws.{equivalent_pointwise}
 use Rattle.event_machine.proofs.pointwise.Goals as goal
 
 pub returns : goal.returns

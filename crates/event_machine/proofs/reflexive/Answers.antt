@@ -1,4 +1,4 @@
-use Rattle.event_machine.proofs.Laws.{equivalent_refl}
+use Rattle.event_machine.specs.Laws.{equivalent_refl}
 use Rattle.event_machine.proofs.reflexive.Goals as goal
 
 pub returns : goal.returns

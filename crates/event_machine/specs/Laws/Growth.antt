@@ -2,7 +2,7 @@
 use Rattle.std.proofs.Common.{ℕ, zero, suc, ◌≤◌, List, [], ◌∷◌, ◌++◌, refl, arith}
 use Rattle.event_machine.specs.Outcome.{Outcome, Went, Said, Ended}
 use Rattle.event_machine.specs.Observation.{Observation, observed_after, observed_from, IsPrefix, Grows}
-use Rattle.event_machine.proofs.Prefix.{prefix_refl, prefix_trans, prefix-append}
+use Rattle.event_machine.specs.Laws.Prefix.{prefix_refl, prefix_trans, prefix-append}
 
 module _ {Event Ending : Type 0} where
   pub grows_refl : (o : Observation Event Ending) → Grows o o

@@ -6,8 +6,8 @@ use Rattle.event_machine.specs.Outcome.{Outcome}
 use Rattle.event_machine.specs.Observation.{Observation, observed_from, observed, IsPrefix, Grows}
 use Rattle.event_machine.specs.Equivalent.{Within, Covers, Excuses, Equivalent}
 use Rattle.event_machine.specs.Follows.{Ends, Follows, Both, Waits, End, Breaks}
-use Rattle.event_machine.proofs.Prefix.{prefix_trans, prefixes_nested}
-use Rattle.event_machine.proofs.Growth.{grows}
+use Rattle.event_machine.specs.Laws.Prefix.{prefix_trans, prefixes_nested}
+use Rattle.event_machine.specs.Laws.Growth.{grows}
 
 -- an ending can't be both broken and not
 pub not_both : {Ending : Type 0} (is_broken : Ending → Bool) (end : Ending) → IsTrue (is_broken end) → IsFalse (is_broken end) → ⊥
@@ -19,9 +19,9 @@ module _ {Event Ending : Type 0} (is_broken : Ending → Bool) where
   pub excused_back : (first now later : Observation Event Ending) → Grows now later → Excuses is_broken first later → (o : Option Ending) → now.ending ≡ o → Covers first now ⊎ Excuses is_broken first now
   excused_back first now later g x None e = elim (prefixes_nested now.events first.events later.events g.events x.events) [
     | inl shorter ↦ inl (record { events = shorter; ending = λ end f. cc })
-    | inr longer ↦ inr (record { end = x.end; ending = x.ending; broken = x.broken; events = longer })
+    | inr longer ↦ inr (record { broken = x.broken; events = longer })
   ]
-  excused_back first now later g x (Some end) e = inr (record { end = x.end; ending = x.ending; broken = x.broken; events = let same = g.ending end e in rw same at x.events })
+  excused_back first now later g x (Some end) e = inr (record { broken = x.broken; events = let same = g.ending end e in rw same at x.events })
 
 module _ {Event Ending S T : Type 0} (is_broken : Ending → Bool) (first : S → Outcome Event Ending S) (second : T → Outcome Event Ending T) where
   -- moments of both runs, each after n steps at least, at which the same was observed, or the first broke before
@@ -41,7 +41,7 @@ module _ {Event Ending S T : Type 0} (is_broken : Ending → Bool) (first : S �
     late_j = omega arith;
     alike = elim m.alike [
       | inl same ↦ inl (e ∙ same ∙ sym f)
-      | inr x ↦ inr (record { end = x.end; ending = ap (λ u. u.ending) e ∙ x.ending; broken = x.broken; events = rw (e, f) x.events })
+      | inr x ↦ inr (record { broken = record { end = x.broken.end; reached = ap (λ u. u.ending) e ∙ x.broken.reached; judged = x.broken.judged }; events = rw (e, f) x.events })
     ];
   }
 
@@ -65,7 +65,7 @@ module _ {Event Ending S T : Type 0} (is_broken : Ending → Bool) (first : S �
         j = m + n;
         late_i = omega arith;
         late_j = omega arith;
-        alike = inr (record { end = end; ending = ap (λ u. u.ending) e; broken = b; events = rw e (prefix_trans said' _ _ q h.events) });
+        alike = inr (record { broken = record { end = end; reached = ap (λ u. u.ending) e; judged = b }; events = rw e (prefix_trans said' _ _ q h.events) });
       }
 
   module _ (Related : S → T → Type 0) (rank : S → T → ℕ) (follows : (s : S) (t : T) (said : List Event) → Related s t → Follows is_broken first second Related rank s t said) where
@@ -105,9 +105,9 @@ module _ {Event Ending S T : Type 0} (is_broken : Ending → Bool) (first : S �
             | inr x ↦ record {
               events = prefix_trans _ _ _ g.events x.events;
               ending = λ end e sound.
-                  let b : Some x.end ≡ Some end = sym x.ending ∙ ap (λ u. u.ending) (g.ending end e) ∙ e in
-                  let c : x.end ≡ end = cc in
-                  absurd (not_both is_broken end (subst (λ d. IsTrue (is_broken d)) c x.broken) sound);
+                  let b : Some x.broken.end ≡ Some end = sym x.broken.reached ∙ ap (λ u. u.ending) (g.ending end e) ∙ e in
+                  let c : x.broken.end ≡ end = cc in
+                  absurd (not_both is_broken end (subst (λ d. IsTrue (is_broken d)) c x.broken.judged) sound);
             }
           ],
         )

@@ -1,10 +1,10 @@
 -- Stretches of a run, and how they are put together.
-use Rattle.std.proofs.Common.{◌≡◌, ℕ, suc, Bool, IsTrue, inl, inr, List, [], ◌∷◌, ◌++◌, refl, sym, ap, ◌∙◌, arith}
+use Rattle.std.proofs.Common.{◌≡◌, ℕ, suc, ◌≤◌, Bool, IsTrue, inl, inr, List, [], ◌∷◌, ◌++◌, refl, sym, ap, ◌∙◌, arith}
 use Rattle.event_machine.specs.Outcome.{Outcome, Went, Said, Ended}
 use Rattle.event_machine.specs.Observation.{observed_after, observed_from}
-use Rattle.event_machine.specs.Follows.{Comes, Leads, Ends, Follows, Both, End, Breaks}
+use Rattle.event_machine.specs.Follows.{Comes, Leads, Ends, Follows, Both, Waits, End, Breaks}
 use Rattle.event_machine.specs.Alike.{Alike}
-use Rattle.event_machine.proofs.Growth.{keeps}
+use Rattle.event_machine.specs.Laws.Growth.{keeps}
 
 module _ {Event Ending State : Type 0} (step : State → Outcome Event Ending State) where
   -- a silent step
@@ -35,6 +35,10 @@ module _ {Event Ending State : Type 0} (step : State → Outcome Event Ending St
   pub leads_on : (s s' s'' : State) (said said' said'' : List Event) → Leads step s said s' said' → Comes step s' said' s'' said'' → Leads step s said s'' said''
   leads_on s s' s'' said said' said'' p q = record { by = λ k. let b = q.by k in let a = p.by b.0 in (a.0, omega (arith, a.1, b.1), a.2 ∙ b.2) }
 
+  -- a stretch of one step or more after a stretch
+  pub leads_after : (s s' s'' : State) (said said' said'' : List Event) → Comes step s said s' said' → Leads step s' said' s'' said'' → Leads step s said s'' said''
+  leads_after s s' s'' said said' said'' p q = record { by = λ k. let b = q.by k in let a = p.by b.0 in (a.0, omega (arith, a.1, b.1), a.2 ∙ b.2) }
+
   -- an ending after a stretch
   pub ends_on : (s s' : State) (said said' said'' : List Event) (end : Ending) → Comes step s said s' said' → Ends step s' said' end said'' → Ends step s said end said''
   ends_on s s' said said' said'' end p q = let a = p.by q.steps in record { steps = a.0; observation = a.2 ∙ q.observation }
@@ -57,3 +61,10 @@ module _ {Event Ending S T : Type 0} (is_broken : Ending → Bool) (first : S �
   -- where the first breaks at once, nothing is asked of the second
   pub breaks : (s : S) (t : T) (said : List Event) (end : Ending) → IsTrue (is_broken end) → first s ≡ Ended end → Follows is_broken first second Related rank s t said
   breaks s t said end b e = Breaks end b said 0 (ended first s end said e) (keeps second 0 t said)
+
+  -- Where both come to states from which the second follows the first, it follows already now, if the rank is no less now.
+  pub follows_on : (s s' : S) (t t' : T) (said said' : List Event) → rank s' t' ≤ rank s t → Comes first s said s' said' → Comes second t said t' said' → Follows is_broken first second Related rank s' t' said' → Follows is_broken first second Related rank s t said
+  follows_on s s' t t' said said' le p q (Both s'' t'' said'' p' q' r) = Both s'' t'' said'' (leads_after first s s' s'' said said' said'' p p') (leads_after second t t' t'' said said' said'' q q') r
+  follows_on s s' t t' said said' le p q (Waits s'' t'' said'' falls p' q' r) = Waits s'' t'' said'' (omega (arith, le, falls)) (comes_on first s s' s'' said said' said'' p p') (comes_on second t t' t'' said said' said'' q q') r
+  follows_on s s' t t' said said' le p q (End end said'' p' q') = End end said'' (ends_on first s s' said said' said'' end p p') (ends_on second t t' said said' said'' end q q')
+  follows_on s s' t t' said said' le p q (Breaks end b said'' m p' begins) = let a = q.by m in Breaks end b said'' a.0 (ends_on first s s' said said' said'' end p p') (rw a.2 begins)
