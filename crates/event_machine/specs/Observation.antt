@@ -1,5 +1,5 @@
 -- What is observed of a run within a number of steps.
-use Rattle.std.specs.Prelude.{◌≡◌, ℕ, zero, suc, List, [], ◌∷◌, ◌++◌, Option, Some, None}
+use Rattle.std.specs.Prelude.{◌≡◌, ℕ, zero, suc, List, [], ◌∷◌, ◌++◌, map, Option, Some, None}
 use Rattle.event_machine.specs.Outcome.{Outcome, Went, Said, Ended}
 
 -- the events that were said, the oldest first, and how the run ended, where it has ended
@@ -34,3 +34,7 @@ pub record IsPrefix {Event : Type 0} (xs ys : List Event) : Type 0 where
 pub record Grows {Event Ending : Type 0} (old new : Observation Event Ending) : Type 0 where
   pub events : IsPrefix old.events new.events
   pub ending : (end : Ending) → old.ending ≡ Some end → new ≡ old
+
+-- the same observation, with a label in place of each event
+abbrev pub observation_relabel : {Event Label Ending : Type 0} → (Event → Label) → Observation Event Ending → Observation Label Ending
+observation_relabel label o = record { events = map label o.events; ending = o.ending }

@@ -5,7 +5,7 @@
 #![tactic(auto)]
 
 ghost use Rattle.std.specs.Prelude.{◌≡◌, ℕ, ◌≤◌, List, Bool};
-ghost use Rattle.event_machine.specs.Outcome.{Outcome, outcome_map};
+ghost use Rattle.event_machine.specs.Outcome.{Outcome, outcome_map, outcome_relabel};
 ghost use Rattle.event_machine.specs.Observation.{observed, Grows};
 ghost use Rattle.event_machine.specs.Equivalent.{IsBroken, Equivalent};
 ghost use Rattle.event_machine.specs.Follows.{Follows};
@@ -36,6 +36,14 @@ pub fn along_image<Event, Ending, S, T>()
     ensures equivalent { (is_broken : Ending → Bool) (first : S → Outcome Event Ending S) (second : T → Outcome Event Ending T) (image : S → T) →
         ((s : S) → second (image s) ≡ outcome_map image (first s)) →
         (s : S) → Equivalent is_broken first s second (image s) }
+{}
+
+/// Equivalent machines stay so where each event is looked at through a function, as where an event
+/// carries more than what is compared.
+pub fn along_labels<Event, Label, Ending, S, T>()
+    ensures { (is_broken : Ending → Bool) (label : Event → Label) (first : S → Outcome Event Ending S) (second : T → Outcome Event Ending T) (s : S) (t : T) →
+        Equivalent is_broken first s second t →
+        Equivalent is_broken (λ s. outcome_relabel label (first s)) s (λ t. outcome_relabel label (second t)) t }
 {}
 
 /// Observational equivalences compose: so a chain of machines is shown link by link.
