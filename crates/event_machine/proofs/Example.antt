@@ -71,10 +71,14 @@ silent_steps Loose g = 0
 silent_steps Still g = 0
 
 -- what both do from states that stand for each other: at Drawn only the bell moves, then both ring, then both end
-ring_follows : (s : Bell) (t : Gong) (before : List ℕ) → Rings s t → Follows is_broken ring strike Rings silent_steps s t before
-ring_follows Drawn Ready before r = Waits Loose Ready before (omega arith) (comes ring Drawn Loose before before (went ring Drawn Loose before refl)) (stays strike Ready before) tt
-ring_follows Loose Ready before r = Both Still Struck (before ++ 7 ∷ []) (said ring Loose Still 7 before refl) (said strike Ready Struck 7 before refl) tt
-ring_follows Still Struck before r = End Done before (ended ring Still Done before refl) (ended strike Struck Done before refl)
+ring_follows : (s : Bell) (t : Gong) (before : List ℕ) → Rings s t
+    → Follows is_broken ring strike Rings silent_steps s t before
+ring_follows Drawn Ready before r =
+    Waits Loose Ready before (omega arith) (comes ring Drawn Loose before before (went ring Drawn Loose before refl)) (stays strike Ready before) tt
+ring_follows Loose Ready before r =
+    Both Still Struck (before ++ 7 ∷ []) (said ring Loose Still 7 before refl) (said strike Ready Struck 7 before refl) tt
+ring_follows Still Struck before r =
+    End Done before (ended ring Still Done before refl) (ended strike Struck Done before refl)
 ring_follows Drawn Struck before r = absurd r
 ring_follows Loose Struck before r = absurd r
 ring_follows Still Ready before r = absurd r

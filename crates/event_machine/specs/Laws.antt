@@ -1,11 +1,12 @@
--- The laws that crates above cite, each from one place:
+-- The laws that crates above cite. Each is proved from the definitions beside this file, so none has to be believed.
 --     simulated            a forward simulation with progress gives observational equivalence
 --     locked, breaks       what a machine in lockstep shows at each pair of related states;  where the first breaks at once
 --     went, said, ended    one step
 --     stays, comes         no step;  one step or more is a stretch
 --     comes_on, leads_on, leads_after, ends_on, follows_on      stretches put together
 --     equivalent_refl, equivalent_trans      each machine is equivalent to itself;  equivalences compose
---     equivalent_along_image, equivalent_pointwise, equivalent_observed      machines that step alike, or of which the same is observed
+--     equivalent_along_image, equivalent_pointwise      machines that step alike are equivalent
+--     equivalent_observed  machines of which the same is observed are
 --     observed-image       what is observed of a machine whose steps are another's along a function of its states
 --     equivalent_relabel, observed-relabel      the same of machines whose events are looked at through a function
 --     broken_back          the second is broken only where the first is

@@ -9,19 +9,22 @@ pub record Observation (Event Ending : Type 0) : Type 0 where
 
 -- What is observed once a step has been taken, where `said` are the events before it
 -- and `onward` observes the run from the next state.
-abbrev pub observed_after : {Event Ending State : Type 0} → Outcome Event Ending State → (State → List Event → Observation Event Ending) → List Event → Observation Event Ending
+abbrev pub observed_after : {Event Ending State : Type 0} → Outcome Event Ending State
+    → (State → List Event → Observation Event Ending) → List Event → Observation Event Ending
 observed_after (Went s) onward said = onward s said
 observed_after (Said event s) onward said = onward s (said ++ event ∷ [])
 observed_after (Ended ending) onward said = record { events = said; ending = Some ending }
 
 -- What is observed within n steps from a state, where `said` are the events before.
 -- A run that is over takes no further step: the steps that are left change nothing.
-abbrev pub observed_from : {Event Ending State : Type 0} → (State → Outcome Event Ending State) → ℕ → State → List Event → Observation Event Ending
+abbrev pub observed_from : {Event Ending State : Type 0} → (State → Outcome Event Ending State) → ℕ → State
+    → List Event → Observation Event Ending
 observed_from step zero s said = record { events = said; ending = None }
 observed_from step (suc n) s said = observed_after (step s) (observed_from step n) said
 
 -- what is observed within n steps from a state
-abbrev pub observed : {Event Ending State : Type 0} → (State → Outcome Event Ending State) → ℕ → State → Observation Event Ending
+abbrev pub observed : {Event Ending State : Type 0} → (State → Outcome Event Ending State) → ℕ → State
+    → Observation Event Ending
 observed step n s = observed_from step n s []
 
 -- the first list is the beginning of the second
@@ -36,5 +39,6 @@ pub record Grows {Event Ending : Type 0} (old new : Observation Event Ending) : 
   pub ending : (end : Ending) → old.ending ≡ Some end → new ≡ old
 
 -- the same observation, with a label in place of each event
-abbrev pub observation_relabel : {Event Label Ending : Type 0} → (Event → Label) → Observation Event Ending → Observation Label Ending
+abbrev pub observation_relabel : {Event Label Ending : Type 0} → (Event → Label) → Observation Event Ending
+    → Observation Label Ending
 observation_relabel label o = record { events = map label o.events; ending = o.ending }

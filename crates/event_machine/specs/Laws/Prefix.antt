@@ -9,7 +9,9 @@ module _ {Event : Type 0} where
 
   -- the beginning of a beginning is a beginning
   pub prefix_trans : (xs ys zs : List Event) → IsPrefix xs ys → IsPrefix ys zs → IsPrefix xs zs
-  prefix_trans xs ys zs p q = record { rest = p.rest ++ q.rest; whole = sym (append_assoc xs p.rest q.rest) ∙ ap (λ l. l ++ q.rest) p.whole ∙ q.whole }
+  prefix_trans xs ys zs p q =
+      let whole = sym (append_assoc xs p.rest q.rest) ∙ ap (λ l. l ++ q.rest) p.whole ∙ q.whole in
+      record { rest = p.rest ++ q.rest; whole = whole }
 
   -- a list begins each list that goes on from it
   pub prefix-append : (xs ys : List Event) → IsPrefix xs (xs ++ ys)
@@ -27,5 +29,6 @@ module _ {Event : Type 0} where
       ]
 
   -- of two beginnings of one list, one begins the other
-  pub prefixes_nested : (xs ys zs : List Event) → IsPrefix xs zs → IsPrefix ys zs → IsPrefix xs ys ⊎ IsPrefix ys xs
+  pub prefixes_nested : (xs ys zs : List Event) → IsPrefix xs zs → IsPrefix ys zs
+      → IsPrefix xs ys ⊎ IsPrefix ys xs
   prefixes_nested xs ys zs p q = nested xs ys p.rest q.rest (p.whole ∙ sym q.whole)
