@@ -1,6 +1,6 @@
 -- What follows of named files from their definitions.
 use Rattle.std.proofs.Common.{refl, ap, sym, ◌∙◌, subst, take, drop, length}
-use Rattle.std.specs.Prelude.{◌≡◌, ◌≢◌, ℕ, zero, suc, List, [], ◌∷◌, ◌++◌, Bool, true, false, cond, IsSome}
+use Rattle.std.specs.Prelude.{◌≡◌, ◌≢◌, ℕ, zero, suc, List, [], ◌∷◌, ◌++◌, Bool, true, false, cond, IsSome, option_map}
 use Rattle.std.specs.declared.option.Option.{Option}
 use Rattle.std.specs.declared.option.Option.TheVariants.{Some, None}
 use Rattle.std.specs.declared.cmp.Ordering.{Ordering}
@@ -12,11 +12,12 @@ use Rattle.std.specs.List.Sorted.{IsStrictlySortedBy}
 use Rattle.std.proofs.lemmas.Bool.{false_from_ne_true}
 use Rattle.std.proofs.lemmas.Bool.Decides.{Decides-eqb}
 use Rattle.std.proofs.lemmas.Cmp.{tied_itself}
+use Rattle.std.proofs.lemmas.List.{append-nil}
 use Rattle.std.proofs.lemmas.Map.Text.{is_eq-slice_cmp}
 use Rattle.std.proofs.lemmas.Slice.Eq.{bytes_eq-Decides, starts_is}
-use Rattle.std.proofs.lemmas.List.Elements.{All-from_recursion, All-filter}
+use Rattle.std.proofs.lemmas.List.Elements.{All-from_recursion, All-filter, All-same, All-take, filter_passes}
 use Rattle.std.proofs.lemmas.List.Kept.{IsStrictlySortedBy-filter}
-use Rattle.aj_outside.specs.Files.{byte_order, AreRising, Files, AreFiles, names, file_at, put_file, put_each, is_under, names_under}
+use Rattle.aj_outside.specs.Files.{byte_order, AreRising, Files, AreFiles, names, file_at, put_file, put_each, is_under, names_under, AppendsPrefix}
 
 -- ---- the byte order
 
@@ -137,3 +138,27 @@ is_under-rest folder name t =
 -- a name that is never the folder's name, a slash and more is not under the folder
 pub is_under-never : (folder name : List ℕ) → ((rest : List ℕ) → name ≢ (folder ++ 47 ∷ [] ++ rest)) → is_under folder name ≡ false
 is_under-never folder name h = false_from_ne_true _ (λ t. h (is_under-rest folder name t).0 (is_under-rest folder name t).1)
+
+-- the first names that are listed under a folder rise
+pub AreRising_listed : (count : ℕ) (folder : List ℕ) (files : Files) (listed : List (List ℕ)) → listed ≡ take count (names_under folder files) → AreFiles files → AreRising listed
+AreRising_listed count folder files listed e h = subst AreRising (sym e) (AreRising-take count (names_under folder files) (AreRising-names_under folder files h))
+
+-- the first names that are listed under a folder are under it
+pub all_under_listed : (count : ℕ) (folder : List ℕ) (files : Files) (listed : List (List ℕ)) → listed ≡ take count (names_under folder files) → All (λ name. is_under folder name ≡ true) listed
+all_under_listed count folder files listed e =
+    All-same (λ name. is_under folder name ≡ true) listed (take count (names_under folder files)) e (All-take (λ name. is_under folder name ≡ true) count (names_under folder files) (filter_passes (is_under folder) (names files)))
+
+-- the first names that are listed under a folder are names of files
+pub all_held_listed : (count : ℕ) (folder : List ℕ) (files : Files) (listed : List (List ℕ)) → listed ≡ take count (names_under folder files) → All (λ name. IsSome (file_at files name)) listed
+all_held_listed count folder files listed e =
+    All-same (λ name. IsSome (file_at files name)) listed (take count (names_under folder files)) e (All-take (λ name. IsSome (file_at files name)) count (names_under folder files) (file_at-names_under folder files))
+
+-- ---- appended bytes
+
+append-none : (bytes : List ℕ) (before : Option (List ℕ)) → before ≡ option_map (λ written. written ++ take 0 bytes) before
+append-none bytes None = refl
+append-none bytes (Some written) = ap (λ w. Some w) (sym (append-nil written))
+
+-- where nothing was written, no first bytes were appended
+pub AppendsPrefix_none : (bytes : List ℕ) (before now : Option (List ℕ)) → now ≡ before → AppendsPrefix bytes before now
+AppendsPrefix_none bytes before now e = (0, e ∙ append-none bytes before)

@@ -5,10 +5,15 @@
 //! standard output, and tell nothing.
 #![tactic(auto)]
 
+mod memory_shelves;
+mod memory_sinks;
 pub mod names;
+mod schedules;
 pub mod shelves;
 pub mod sinks;
 
+pub use memory_shelves::MemShelf;
+pub use memory_sinks::MemSink;
 pub use names::Name;
 pub use shelves::{Shelf, ShelfFault};
 pub use sinks::{Sink, SinkFault};

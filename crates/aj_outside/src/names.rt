@@ -157,6 +157,13 @@ impl Name {
     pub fn strip_folder(&self, folder: &str) -> Option<&str>
         ensures stripped { MatchOption result (is_under folder.now self.now ≡ false) (λ rest. self.now ≡ folder.now ++ 47 ∷ [] ++ rest.now) }
     {
-        self.text.as_str().strip_prefix(folder)?.strip_prefix('/')
+        strip_folder_of(self.text.as_str(), folder)
     }
+}
+
+/// What follows `folder/` in a text that begins so, else `None`.
+pub(crate) fn strip_folder_of<'a>(text: &'a str, folder: &str) -> Option<&'a str>
+    ensures stripped { MatchOption result (is_under folder.now text.now ≡ false) (λ rest. text.now ≡ folder.now ++ 47 ∷ [] ++ rest.now) }
+{
+    text.strip_prefix(folder)?.strip_prefix('/')
 }

@@ -6,7 +6,7 @@ use Rattle.std.proofs.lemmas.List.Prefix.{front_rest}
 use Rattle.std.proofs.lemmas.Str.Pattern.{strip_prefix_char}
 use Rattle.aj_outside.specs.Files.{is_under}
 use Rattle.aj_outside.specs.FileLaws.{is_under-never}
-use Rattle.aj_outside.proofs.names.Name.strip_folder.Goals as goal
+use Rattle.aj_outside.proofs.names.strip_folder_of.Goals as goal
 
 lacks-folder : (text folder : List ℕ) → ((rest : List ℕ) → text ≢ (folder ++ rest)) → is_under folder text ≡ false
 lacks-folder text folder h = is_under-never folder text (λ rest e. h (47 ∷ [] ++ rest) (e ∙ append_assoc folder (47 ∷ []) rest))
@@ -23,13 +23,10 @@ both text folder left None e h = lacks-slash text folder left e h
 both text folder left (Some x) e h = after-slash text folder left x.now e h
 
 pub returns-in_err-strip_prefix : goal.returns-in_err-strip_prefix
-returns-in_err-strip_prefix c =
-    let text-is = c.as_str.ensures.value ∙ c.self.view_is in
-    rw c.from_residual.ensures (record { stripped = lacks-folder _ _ (λ rest e. c.in_err-strip_prefix.ensures.cases rest (text-is ∙ e)) })
+returns-in_err-strip_prefix c = rw c.from_residual.ensures (record { stripped = lacks-folder _ _ c.in_err-strip_prefix.ensures.cases })
 
 pub returns : goal.returns
 returns c =
-    let text-is = c.as_str.ensures.value ∙ c.self.view_is in
     let parts = c.in_ok-strip_prefix.ensures.cases in
-    let split = sym text-is ∙ parts.1.1 ∙ ap (λ left. c.args.folder.now ++ left) (sym parts.2) in
+    let split = parts.1.1 ∙ ap (λ left. c.args.folder.now ++ left) (sym parts.2) in
     record { stripped = both _ _ _ c.strip_prefix-2.result split (strip_prefix_char 47 _ _ c.strip_prefix-2.ensures.cases (lit< tt)) }
