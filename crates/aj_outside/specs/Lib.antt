@@ -4,3 +4,4 @@ pub mod FileLaws
 pub mod CountLaws
 pub mod Memory
 pub mod Stored
+pub mod Edge
