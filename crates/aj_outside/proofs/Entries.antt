@@ -1,5 +1,5 @@
 -- A map from texts to bytes, seen as files.
-use Rattle.std.proofs.Common.{◌≡◌, ◌≤◌, ℕ, Bool, true, false, cond, List, [], ◌∷◌, ◌++◌, map, take, length, Option, Some, None, option_map, refl, ap, sym, ◌∙◌, subst, arith, append_assoc, rules}
+use Rattle.std.proofs.Common.{◌≡◌, ℕ, Bool, true, false, cond, List, [], ◌∷◌, ◌++◌, map, take, Option, Some, None, option_map, refl, ap, sym, ◌∙◌, subst, append_assoc}
 use mathlib.Core.Bool.{true≢false}
 use denote.Ref.{Bor}
 use Rattle.std.specs.declared.alloc.Global.{Global}
@@ -14,10 +14,9 @@ use Rattle.std.specs.Map.{lookup, keys_of}
 use Rattle.std.specs.Option.{option_copied}
 use Rattle.std.specs.String.{string_bytes, string_cmp}
 use Rattle.std.specs.BTreeMap.{insert_entry}
-use Rattle.std.proofs.lemmas.List.{append-nil, take-append-le}
 use Rattle.std.specs.Option.{MatchOption, is_some}
 use Rattle.aj_outside.specs.FileLaws.{AreFiles-none, AreFiles-put, is_under-joined}
-use Rattle.aj_outside.specs.Files.{Files, AreFiles, byte_order, names, file_at, put_file, put_each, is_under, names_under}
+use Rattle.aj_outside.specs.Files.{Files, AreFiles, byte_order, names, file_at, put_file, put_each, is_under}
 use Rattle.aj_outside.specs.Stored.{stored_files}
 
 -- an insert puts a file

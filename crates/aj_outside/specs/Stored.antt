@@ -1,5 +1,5 @@
 -- Files that are kept in a map from texts to bytes.
-use Rattle.std.specs.Prelude.{ℕ, List, map, ◌∷◌, []}
+use Rattle.std.specs.Prelude.{ℕ, List, map}
 use Rattle.std.specs.declared.alloc.Global.{Global}
 use Rattle.std.specs.declared.string.String.{String}
 use Rattle.std.specs.declared.vec.Vec.{Vec}

@@ -9,12 +9,11 @@ use crate::shelves::{Shelf, ShelfFault};
 use crate::walks::files_below;
 use std::alloc::{AllocError, AllocFailed, Global};
 use std::collections::BTreeSet;
-use std::fs;
 use std::fs::{File, OpenFile};
-use std::io;
 use std::io::{ErrorKind, Read};
 use std::marker::Model;
 use std::rt::Files;
+use std::{fs, io};
 
 /// The files of a runtime, which contracts see as three counts. What they hold is not told.
 ///
@@ -38,9 +37,9 @@ impl<R> Model for FolderShelf<R> {
     ghost Value = { FolderCounts };
 
     ghost view = { λ shelf. record {
-        faults = shelf.faults;
-        write_faults = shelf.write_faults;
-        missing = shelf.missing;
+      faults = shelf.faults;
+      write_faults = shelf.write_faults;
+      missing = shelf.missing;
     } };
 }
 
@@ -70,7 +69,11 @@ impl<R: Files + AllocGlobal + Clone + Drop> FolderShelf<R> {
     }
 
     fn reaches(&self, path: &str) -> bool {
-        is_plain(path) || self.granted.iter().any(|word| goes_on_from(path, word.as_str()))
+        is_plain(path)
+            || self
+                .granted
+                .iter()
+                .any(|word| goes_on_from(path, word.as_str()))
     }
 }
 
@@ -90,8 +93,11 @@ fn goes_on_from(path: &str, word: &str) -> bool {
 
 impl<R: Files + AllocGlobal + Clone + Drop> Shelf for FolderShelf<R> {
     ghost held = { λ _. None };
+
     ghost faults = { λ counts. counts.faults };
+
     ghost write_faults = { λ counts. counts.write_faults };
+
     ghost missing = { λ counts. counts.missing };
 
     fn list(&mut self, alloc: Global, under: &str, most: u32) -> Result<Vec<Name>, ShelfFault> {
@@ -187,12 +193,7 @@ fn first_names(
 }
 
 // The first `most` bytes of a file.
-fn read_file<R: Files>(
-    rt: &R,
-    alloc: Global,
-    path: &str,
-    most: u32,
-) -> Result<Vec<u8>, ShelfFault>
+fn read_file<R: Files>(rt: &R, alloc: Global, path: &str, most: u32) -> Result<Vec<u8>, ShelfFault>
     ensures few { IfOk result (λ bytes. vec_len bytes ≤ most) }
 {
     match File::open(rt, path) {

@@ -32,6 +32,7 @@ impl<R: Print + Drop> StdSink<R> {
 
 impl<R: Print + Drop> Sink for StdSink<R> {
     ghost written = { λ _. None };
+
     ghost faults = { λ count. count };
 
     fn put(&mut self, bytes: &[u8]) -> Result<(), SinkFault> {

@@ -2,11 +2,10 @@
 
 use std::alloc::Global;
 use std::collections::BTreeSet;
-use std::fs;
 use std::fs::DirEntry;
-use std::io;
 use std::io::ErrorKind;
 use std::rt::Files;
+use std::{fs, io};
 
 /// The most entries of folders that a walk looks at.
 pub const MOST_ENTRIES: u32 = 1_000_000;

@@ -1,5 +1,5 @@
 -- Each turn puts one file, and keeps the order.
-use Rattle.std.proofs.Common.{◌≡◌, [], map, ap, sym, ◌∙◌, rules}
+use Rattle.std.proofs.Common.{◌≡◌, map, ap, sym, ◌∙◌, rules}
 use Rattle.std.specs.Vec.Iter.{into_iter_items}
 use Rattle.aj_outside.specs.Files.{put_each}
 use Rattle.aj_outside.specs.Stored.{stored_files}
