@@ -96,9 +96,13 @@ abbrev pub each_below : ℕ → (ℕ → Bool) → Bool
 each_below zero test = true
 each_below (suc n) test = each_below n test && test n
 
+-- key i is below the next
+abbrev pub ascends_at : List ℕ → ℕ → ℕ → Bool
+ascends_at code table i = int_lt (pair_key code table i) (pair_key code table (i + 1))
+
 -- each key but the last is below the next
 abbrev pub keys_ascend : List ℕ → ℕ → Bool
-keys_ascend code table = each_below (pair_count code table - 1) (λ i. int_lt (pair_key code table i) (pair_key code table (i + 1)))
+keys_ascend code table = each_below (pair_count code table - 1) (λ i. ascends_at code table i)
 
 -- `size` bytes stand from the place on
 abbrev pub reaches : List ℕ → ℕ → ℕ → Bool
