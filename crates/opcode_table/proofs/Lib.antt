@@ -1,5 +1,1 @@
-pub mod Each
-pub mod Bytes
-pub mod Forms
-pub mod Again
-pub mod Found
+pub mod Keys

@@ -53,6 +53,10 @@ spelling (Insn.Branch op offset) = op ∷ branch_bytes (form_of op) offset
 spelling (Insn.TableSwitch table) = []
 spelling (Insn.LookupSwitch table) = []
 
+-- the bytes over the front of others
+abbrev pub over : List ℕ → List ℕ → List ℕ
+over bytes out = bytes ++ drop (length bytes) out
+
 -- ---- which instructions stand in some code
 
 abbrev pub IsForm : Form → Option Form → Type 0

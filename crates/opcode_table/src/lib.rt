@@ -2,14 +2,16 @@
 //! instruction (the Java Virtual Machine Specification, second edition, chapters 6 and 9).
 #![tactic(auto)]
 
-mod decode;
+mod decoding;
+mod encoding;
 mod fault;
 mod form;
 mod insn;
 mod switch;
 mod table;
 
-pub use decode::decode_at;
+pub use decoding::decode_at;
+pub use encoding::{encode, length_of};
 pub use fault::CodeFault;
 pub use form::Form;
 pub use insn::Insn;

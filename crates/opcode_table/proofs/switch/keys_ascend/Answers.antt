@@ -2,7 +2,8 @@
 use Rattle.std.proofs.Common.{◌≡◌, ◌+◌, ◌-◌, ◌<◌, ◌≤◌, true, false, arith, refl, sym}
 use Rattle.std.specs.Prelude.{int_lt}
 use Rattle.opcode_table.specs.Decoding.{pair_count, pair_key, ascends_at}
-use Rattle.opcode_table.proofs.Each.{each_more, each_fails, each_fewer, not_above, above}
+use Rattle.opcode_table.specs.Each.{each_more, each_fails, each_fewer}
+use Rattle.opcode_table.proofs.Keys.{not_above, above}
 use Rattle.opcode_table.proofs.switch.keys_ascend.Goals as goal
 
 pub returns-then-key : goal.returns-then-key

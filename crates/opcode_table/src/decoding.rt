@@ -2,6 +2,7 @@
 
 ghost use Rattle.std.specs.Prelude.{◌≡◌, ◌<◌, ◌^◌, true, false, length, IfOk};
 ghost use Rattle.opcode_table.specs.Decoding.{u2, s1, s2, s4, one_byte, two_bytes, three_bytes, four_bytes, after_wide, widened, operands, by_form, decoded};
+ghost use Rattle.opcode_table.specs.Spelling.{Stands};
 ghost use Rattle.opcode_table.specs.Table.{form_of};
 
 use crate::fault::CodeFault;
@@ -242,15 +243,11 @@ fn operands(
     }
 }
 
-/// What stands at a place in a method's code, and how many bytes it has (JVMS 6.4). The code is at most 65535 bytes
-/// (JVMS 4.7.3), and the place is counted from its start.
-///
-/// A place at or past the end is `Cut`. At a switch a header that is there and is wrong comes first, then a table
-/// that is cut, then keys that do not ascend. The bytes of padding may hold anything.
+// What stands at a place.
 #[tactic(auto, unfolding(crate::specs::Decoding::decoded))]
-pub fn decode_at(code: &[u8], pc: u32) -> Result<(Insn, u32), CodeFault>
+fn decoded(code: &[u8], pc: u32) -> Result<(Insn, u32), CodeFault>
     requires { length code.now < 2 ^ 16 }
-    ensures exact { result ≡ decoded code.now pc }
+    ensures { result ≡ decoded code.now pc }
 {
     let place = pc as usize;
     if place >= code.len() {
@@ -263,4 +260,17 @@ pub fn decode_at(code: &[u8], pc: u32) -> Result<(Insn, u32), CodeFault>
         },
         _ => Err(CodeFault::Cut(pc)),
     }
+}
+
+/// What stands at a place in a method's code, and how many bytes it has (JVMS 6.4). The code is at most 65535 bytes
+/// (JVMS 4.7.3), and the place is counted from its start.
+///
+/// A place at or past the end is `Cut`. At a switch a header that is there and is wrong comes first, then a table
+/// that is cut, then keys that do not ascend. The bytes of padding may hold anything.
+pub fn decode_at(code: &[u8], pc: u32) -> Result<(Insn, u32), CodeFault>
+    requires { length code.now < 2 ^ 16 }
+    ensures exact { result ≡ decoded code.now pc }
+    ensures stands { IfOk result (λ found. Stands code.now pc found.0 found.1) }
+{
+    decoded(code, pc)
 }

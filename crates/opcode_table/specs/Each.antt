@@ -1,11 +1,9 @@
 -- A test of each number below another.
 use Rattle.std.proofs.Common.{◌≡◌, ℕ, zero, suc, ◌+◌, ◌-◌, ◌<◌, ◌≤◌, Bool, true, false, ◌&&◌, arith, refl, inl, inr, add-one}
-use Rattle.std.specs.Prelude.{ℤ, int_lt}
-use Rattle.std.specs.Int.{w32, cast_signed, cast_unsigned}
-use Rattle.std.specs.Int.Signed.{le_z, lt_z, mag}
 use Rattle.std.proofs.lemmas.Bool.{and_left, and_right, and_from, and_parts, cases_eq}
+use Rattle.std.specs.Prelude.{List, ℤ, ◌<ℤ◌}
 use Rattle.std.proofs.lemmas.Int.{ints}
-use Rattle.opcode_table.specs.Decoding.{each_below}
+use Rattle.opcode_table.specs.Decoding.{each_below, keys_ascend, pair_count, pair_key, ascends_at}
 
 pub each_more : (test : ℕ → Bool) (n m : ℕ) → m ≡ n + 1 → each_below n test ≡ true → test n ≡ true → each_below m test ≡ true
 each_more test n m e below here = rw (e, add-one) (and_from (each_below n test) (test n) below here)
@@ -36,9 +34,9 @@ at_each test (suc n) i lt below =
       | inr ne ↦ at_each test n i (omega (arith, ne)) both.0
     ]
 
--- what the code's comparison says
-pub not_above : (a b : ℤ) → mag a < 2147483648 → mag b < 2147483648 → le_z (cast_signed w32 (cast_unsigned w32 a)) (cast_signed w32 (cast_unsigned w32 b)) ≡ true → int_lt b a ≡ false
-not_above a b p q h = grind (arith, ints)
+-- ---- the keys of a lookupswitch
 
-pub above : (a b : ℤ) → mag a < 2147483648 → mag b < 2147483648 → le_z (cast_signed w32 (cast_unsigned w32 a)) (cast_signed w32 (cast_unsigned w32 b)) ≡ false → int_lt b a ≡ true
-above a b p q h = grind (arith, ints)
+pub key_next : (code : List ℕ) (table i : ℕ) → keys_ascend code table ≡ true → i + 1 < pair_count code table → pair_key code table i <ℤ pair_key code table (i + 1)
+key_next code table i order lt =
+    let next : ascends_at code table i ≡ true = at_each (λ k. ascends_at code table k) (pair_count code table - 1) i (omega arith) order in
+    grind (arith, ints)

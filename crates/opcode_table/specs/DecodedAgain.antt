@@ -10,8 +10,8 @@ use Rattle.opcode_table.specs.declared.form.Form.TheVariants as Form
 use Rattle.opcode_table.specs.Table.{opcode, form_of}
 use Rattle.opcode_table.specs.Decoding.{Decoded, widened, by_form, instruction, decoded}
 use Rattle.opcode_table.specs.Spelling.{spelling, s2_bytes, local_bytes, increment_bytes, pool_bytes, branch_bytes, FitsLocal, FitsIncrement, FitsPool, FitsBranch, IsInsn, IsSingle}
-use Rattle.opcode_table.proofs.Bytes.{u2_again, s1_again, s2_again, s4_again}
-use Rattle.opcode_table.proofs.Forms.{wide_is, iinc_is}
+use Rattle.opcode_table.specs.Bytes.{u2_again, s1_again, s2_again, s4_again}
+use Rattle.opcode_table.specs.Forms.{wide_is, iinc_is}
 
 bipush_again : (code : List ℕ) (pc : ℕ) (value : ℤ) (rest : List ℕ) → FitsSigned w8 value → instruction code pc (spelling (Insn.Bipush value) ++ rest) ≡ Ok (Insn.Bipush value, 2)
 unfolding spelling opcode

@@ -1,6 +1,6 @@
 -- What is decoded stands there, spelled as its bytes are.
 use Rattle.std.proofs.Common.{◌≡◌, ℕ, zero, suc, ◌+◌, ◌-◌, ◌*◌, ◌/◌, ◌%◌, ◌^◌, ◌<◌, ◌≤◌, Bool, true, false, cond, not, ltb, List, [], ◌∷◌, ◌++◌, length, take, drop, get_or, Option, Some, None, Result, Ok, Err, refl, sym, ap, subst, ◌∙◌, arith}
-use Rattle.std.specs.Prelude.{ℤ, pos, ◌≤ℤ◌, FitsSigned, int_lt}
+use Rattle.std.specs.Prelude.{ℤ, pos, ◌≤ℤ◌, FitsSigned, int_lt, IfOk}
 use Rattle.std.proofs.lemmas.Bool.{ltb-false, not-true, not-false}
 use Rattle.std.proofs.lemmas.List.{get_or-drop, length-drop}
 use Rattle.std.proofs.lemmas.Int.{ints}
@@ -13,8 +13,8 @@ use Rattle.opcode_table.specs.declared.fault.CodeFault.TheVariants.{Cut, Switch}
 use Rattle.opcode_table.specs.Table.{form_of}
 use Rattle.opcode_table.specs.Decoding.{Decoded, u2, s1, s2, s4, table_place, table_low, table_high, table_length, pair_number, lookup_length, keys_ascend, reaches, one_byte, two_bytes, three_bytes, four_bytes, table_switch, lookup_switch, widened, after_wide, operands, by_form, instruction, decoded}
 use Rattle.opcode_table.specs.Spelling.{spelling, u2_bytes, pool_bytes, branch_bytes, IsInsn, IsSingle, HasSwitch, Stands, IsTablePlace, HasTable, HasPairs, FitsLocal, FitsPool, FitsBranch}
-use Rattle.opcode_table.proofs.Bytes.{IsBytes, IsBytes-rest, u2_spelled, u2_below, s1_spelled, s1_fits, s2_spelled, s2_fits, s4_spelled, s4_fits}
-use Rattle.opcode_table.proofs.Forms.{bipush_only, sipush_only, iinc_only, invokeinterface_only, newarray_only, multianewarray_only, wide_only}
+use Rattle.opcode_table.specs.Bytes.{IsBytes, IsBytes-rest, u2_spelled, u2_below, s1_spelled, s1_fits, s2_spelled, s2_fits, s4_spelled, s4_fits}
+use Rattle.opcode_table.specs.Forms.{bipush_only, sipush_only, iinc_only, invokeinterface_only, newarray_only, multianewarray_only, wide_only}
 
 -- what is known of an instruction of n bytes that stands at the front of bytes
 pub record Found (code bytes : List ℕ) (i : Insn) (n : ℕ) : Type 0 where
@@ -202,3 +202,7 @@ unfolding decoded
 decoded_stands code pc i n fits e =
     let found = instruction_found code pc (drop pc code) (i, n) refl (λ k. rw get_or-drop (fits (pc + k))) e in
     record { some = found.some; within = omega (arith, found.some, found.within, length-drop pc code); valid = found.valid; spelled = found.spelled; switch = found.switch }
+
+pub answer_stands : (code : List ℕ) (pc : ℕ) (r : Decoded) → IsBytes code → r ≡ decoded code pc → IfOk r (λ found. Stands code pc found.0 found.1)
+answer_stands code pc (Ok found) fits e = decoded_stands code pc found.0 found.1 fits (sym e)
+answer_stands code pc (Err fault) fits e = tt
