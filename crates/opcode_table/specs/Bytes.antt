@@ -1,5 +1,5 @@
 -- The bytes of a number, and the number of those bytes.
-use Rattle.std.proofs.Common.{◌≡◌, ℕ, zero, suc, ◌^◌, ◌<◌, List, [], ◌∷◌, length, get_or, arith, refl, sym, ap, ◌∙◌}
+use Rattle.std.proofs.Common.{◌≡◌, ℕ, zero, suc, ◌^◌, ◌<◌, List, [], ◌∷◌, get_or, arith, refl, ap, ◌∙◌}
 use Rattle.std.specs.Prelude.{ℤ, pos, negsuc, FitsSigned}
 use Rattle.std.specs.Int.{w8, w16, w32, from_be_bytes, to_be_bytes, cast_signed, cast_unsigned}
 use Rattle.std.proofs.lemmas.Nat.{be_bytes_2, be_bytes_4, from_be_bytes-to_be_bytes_2, from_be_bytes-to_be_bytes_4}
@@ -56,6 +56,10 @@ pub s4_fits : (a b c d : ℕ) → a < 256 → b < 256 → c < 256 → d < 256 �
 s4_fits a b c d p q r s = sfits_to_z (record { fits = s4_below a b c d p q r s })
 
 -- ---- back again
+
+pub cast_below_8 : (z : ℤ) → FitsSigned w8 z → cast_unsigned w8 z < 2 ^ 8
+cast_below_8 (pos n) fits = omega arith
+cast_below_8 (negsuc n) fits = omega arith
 
 cast_below_16 : (z : ℤ) → FitsSigned w16 z → cast_unsigned w16 z < 2 ^ 16
 cast_below_16 (pos n) fits = omega arith

@@ -1,17 +1,15 @@
 -- What is spelled is decoded again.
-use Rattle.std.proofs.Common.{◌≡◌, ℕ, ◌+◌, ◌^◌, ◌<◌, Bool, true, false, List, [], ◌∷◌, ◌++◌, length, take, drop, Option, Some, None, Ok, Err, refl, sym, ap, subst, ◌∙◌, append_assoc, arith}
+use Rattle.std.proofs.Common.{◌≡◌, ℕ, ◌^◌, ◌<◌, Bool, true, false, List, ◌∷◌, ◌++◌, length, drop, Option, Some, Ok, refl, ap, subst, ◌∙◌, append_assoc}
 use Rattle.std.specs.Prelude.{ℤ, FitsSigned}
-use Rattle.std.specs.Int.{w8, w16, w32, cast_signed, from_be_bytes}
-use Rattle.std.proofs.lemmas.List.{drop_at, take-append-drop}
+use Rattle.std.specs.Int.{w8, w16, cast_signed, from_be_bytes}
+use Rattle.std.proofs.lemmas.List.{drop_at}
 use Rattle.opcode_table.specs.declared.insn.Insn.{Insn}
-use Rattle.opcode_table.specs.declared.insn.Insn.TheVariants as Insn
 use Rattle.opcode_table.specs.declared.form.Form.{Form}
-use Rattle.opcode_table.specs.declared.form.Form.TheVariants as Form
 use Rattle.opcode_table.specs.Table.{opcode, form_of}
 use Rattle.opcode_table.specs.Decoding.{Decoded, widened, by_form, instruction, decoded}
 use Rattle.opcode_table.specs.Spelling.{spelling, s2_bytes, local_bytes, increment_bytes, pool_bytes, branch_bytes, FitsLocal, FitsIncrement, FitsPool, FitsBranch, IsInsn, IsSingle}
 use Rattle.opcode_table.specs.Bytes.{u2_again, s1_again, s2_again, s4_again}
-use Rattle.opcode_table.specs.Forms.{wide_is, iinc_is}
+use Rattle.opcode_table.specs.Forms.{wide_is}
 
 bipush_again : (code : List ℕ) (pc : ℕ) (value : ℤ) (rest : List ℕ) → FitsSigned w8 value → instruction code pc (spelling (Insn.Bipush value) ++ rest) ≡ Ok (Insn.Bipush value, 2)
 unfolding spelling opcode
@@ -21,7 +19,7 @@ sipush_again : (code : List ℕ) (pc : ℕ) (value : ℤ) (rest : List ℕ) → 
 unfolding spelling opcode
 sipush_again code pc value rest fits = ap (λ (n : ℤ). let d : Decoded = Ok (Insn.Sipush n, 3) in d) (s2_again value fits)
 
-local_form : (found : Option Form) (index : ℕ) (wide : Bool) → FitsLocal found index wide → found ≡ Some Form.Local
+pub local_form : (found : Option Form) (index : ℕ) (wide : Bool) → FitsLocal found index wide → found ≡ Some Form.Local
 local_form (Some Form.Local) index wide fits = refl
 local_form _ index wide fits = absurd fits
 

@@ -1,13 +1,11 @@
 -- What is decoded stands there, spelled as its bytes are.
-use Rattle.std.proofs.Common.{◌≡◌, ℕ, zero, suc, ◌+◌, ◌-◌, ◌*◌, ◌/◌, ◌%◌, ◌^◌, ◌<◌, ◌≤◌, Bool, true, false, cond, not, ltb, List, [], ◌∷◌, ◌++◌, length, take, drop, get_or, Option, Some, None, Result, Ok, Err, refl, sym, ap, subst, ◌∙◌, arith}
-use Rattle.std.specs.Prelude.{ℤ, pos, ◌≤ℤ◌, FitsSigned, int_lt, IfOk}
+use Rattle.std.proofs.Common.{◌≡◌, ℕ, ◌+◌, ◌-◌, ◌<◌, ◌≤◌, Bool, true, false, cond, not, ltb, List, [], ◌∷◌, ◌++◌, length, take, drop, Option, Some, None, Ok, Err, refl, sym, ap, subst, ◌∙◌, arith}
+use Rattle.std.specs.Prelude.{ℤ, pos, ◌≤ℤ◌, int_lt, IfOk}
 use Rattle.std.proofs.lemmas.Bool.{ltb-false, not-true, not-false}
 use Rattle.std.proofs.lemmas.List.{get_or-drop, length-drop}
 use Rattle.std.proofs.lemmas.Int.{ints}
 use Rattle.opcode_table.specs.declared.insn.Insn.{Insn}
-use Rattle.opcode_table.specs.declared.insn.Insn.TheVariants as Insn
 use Rattle.opcode_table.specs.declared.form.Form.{Form}
-use Rattle.opcode_table.specs.declared.form.Form.TheVariants as Form
 use Rattle.opcode_table.specs.declared.fault.CodeFault.{CodeFault}
 use Rattle.opcode_table.specs.declared.fault.CodeFault.TheVariants.{Cut, Switch}
 use Rattle.opcode_table.specs.Table.{form_of}

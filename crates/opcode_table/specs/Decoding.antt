@@ -2,9 +2,7 @@
 use Rattle.std.specs.Prelude.{ℕ, ◌+◌, ◌-◌, ◌*◌, ◌/◌, Bool, true, false, not, ◌&&◌, zero, suc, if◌then◌else◌, List, [], ◌∷◌, length, take, drop, Option, Some, None, Result, Ok, Err, nat_lt, ℤ, pos, ◌-ℤ◌, int_lt, unsigned_abs}
 use Rattle.std.specs.Int.{w8, w16, w32, from_be_bytes, cast_signed}
 use Rattle.opcode_table.specs.declared.insn.Insn.{Insn}
-use Rattle.opcode_table.specs.declared.insn.Insn.TheVariants as Insn
 use Rattle.opcode_table.specs.declared.form.Form.{Form}
-use Rattle.opcode_table.specs.declared.form.Form.TheVariants as Form
 use Rattle.opcode_table.specs.declared.fault.CodeFault.{CodeFault}
 use Rattle.opcode_table.specs.declared.fault.CodeFault.TheVariants.{Opcode, Cut, Wide, Switch}
 use Rattle.opcode_table.specs.Table.{form_of}

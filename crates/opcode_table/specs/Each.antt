@@ -1,7 +1,7 @@
 -- A test of each number below another.
-use Rattle.std.proofs.Common.{◌≡◌, ℕ, zero, suc, ◌+◌, ◌-◌, ◌<◌, ◌≤◌, Bool, true, false, ◌&&◌, arith, refl, inl, inr, add-one}
+use Rattle.std.proofs.Common.{◌≡◌, ℕ, zero, suc, ◌+◌, ◌-◌, ◌<◌, ◌≤◌, Bool, true, false, arith, inl, inr, add-one}
 use Rattle.std.proofs.lemmas.Bool.{and_left, and_right, and_from, and_parts, cases_eq}
-use Rattle.std.specs.Prelude.{List, ℤ, ◌<ℤ◌}
+use Rattle.std.specs.Prelude.{List, ◌<ℤ◌}
 use Rattle.std.proofs.lemmas.Int.{ints}
 use Rattle.opcode_table.specs.Decoding.{each_below, keys_ascend, pair_count, pair_key, ascends_at}
 

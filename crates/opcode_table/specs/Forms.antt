@@ -2,7 +2,6 @@
 use Rattle.std.proofs.Common.{◌≡◌, ℕ, ◌<◌, Bool, true, false, eqb, Option, Some, None, refl, ap, sym, ◌∙◌}
 use Rattle.std.proofs.lemmas.Bool.{agree_below, agree_below_at, eqb-true, eq-eqb}
 use Rattle.opcode_table.specs.declared.form.Form.{Form}
-use Rattle.opcode_table.specs.declared.form.Form.TheVariants as Form
 use Rattle.opcode_table.specs.Table.{opcode, form_of}
 
 abbrev form_number : Form → ℕ

@@ -7,3 +7,4 @@ pub mod Forms
 pub mod Each
 pub mod DecodedAgain
 pub mod DecodedStands
+pub mod Placed

@@ -1,12 +1,10 @@
 -- The bytes of an instruction, and which instructions stand in some code (the Java Virtual Machine Specification, second edition, 6.4).
-use Rattle.std.specs.Prelude.{◌≡◌, ℕ, ◌+◌, ◌*◌, ◌%◌, ◌^◌, ◌<◌, ◌≤◌, Bool, true, false, List, [], ◌∷◌, ◌++◌, length, Option, Some, None, Result, Ok, Err, ℤ, pos, ◌≤ℤ◌, FitsSigned, take, drop}
+use Rattle.std.specs.Prelude.{◌≡◌, ℕ, ◌+◌, ◌%◌, ◌^◌, ◌<◌, ◌≤◌, Bool, true, false, List, [], ◌∷◌, ◌++◌, length, Option, Some, ℤ, pos, ◌≤ℤ◌, FitsSigned, take, drop}
 use Rattle.std.specs.Int.{w8, w16, w32, to_be_bytes, cast_unsigned}
 use Rattle.opcode_table.specs.declared.insn.Insn.{Insn}
-use Rattle.opcode_table.specs.declared.insn.Insn.TheVariants as Insn
 use Rattle.opcode_table.specs.declared.form.Form.{Form}
-use Rattle.opcode_table.specs.declared.form.Form.TheVariants as Form
 use Rattle.opcode_table.specs.Table.{form_of}
-use Rattle.opcode_table.specs.Decoding.{Decoded, word_at, table_low, table_high, table_length, pair_number, lookup_length, keys_ascend, decoded}
+use Rattle.opcode_table.specs.Decoding.{table_low, table_high, table_length, pair_number, lookup_length, keys_ascend}
 
 abbrev pub u2_bytes : ℕ → List ℕ
 u2_bytes n = to_be_bytes w16 n
@@ -99,6 +97,18 @@ IsInsn (Insn.Multi index dims) = (index < 2 ^ 16) × (dims < 2 ^ 8)
 IsInsn (Insn.Branch op offset) = FitsBranch (form_of op) offset
 IsInsn (Insn.TableSwitch table) = IsTablePlace table
 IsInsn (Insn.LookupSwitch table) = IsTablePlace table
+
+abbrev pub IsBranchForm : Option Form → Type 0
+IsBranchForm (Some Form.Branch) = Unit {0}
+IsBranchForm (Some Form.WideBranch) = Unit {0}
+IsBranchForm _ = ⊥
+
+-- it stands in some code with another offset or place of its table, if not with its own
+abbrev pub IsShaped : Insn → Type 0
+IsShaped (Insn.Branch op offset) = IsBranchForm (form_of op)
+IsShaped (Insn.TableSwitch table) = Unit {0}
+IsShaped (Insn.LookupSwitch table) = Unit {0}
+IsShaped insn = IsInsn insn
 
 -- it is no switch
 abbrev pub IsSingle : Insn → Type 0

@@ -20,3 +20,6 @@ pub use switch::{
     table_offset,
 };
 pub use table::{form_of, mnemonic};
+
+#[cfg(test)]
+mod tests;

@@ -1,7 +1,7 @@
 -- The first pair that does not ascend ends the walk, and else each was seen.
-use Rattle.std.proofs.Common.{◌≡◌, ◌+◌, ◌-◌, ◌<◌, ◌≤◌, true, false, arith, refl, sym}
+use Rattle.std.proofs.Common.{◌≡◌, ◌+◌, ◌-◌, true, false, arith, sym}
 use Rattle.std.specs.Prelude.{int_lt}
-use Rattle.opcode_table.specs.Decoding.{pair_count, pair_key, ascends_at}
+use Rattle.opcode_table.specs.Decoding.{pair_count, ascends_at}
 use Rattle.opcode_table.specs.Each.{each_more, each_fails, each_fewer}
 use Rattle.opcode_table.proofs.Keys.{not_above, above}
 use Rattle.opcode_table.proofs.switch.keys_ascend.Goals as goal
