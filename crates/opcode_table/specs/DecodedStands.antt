@@ -2,7 +2,7 @@
 use Rattle.std.proofs.Common.{◌≡◌, ℕ, ◌+◌, ◌-◌, ◌<◌, ◌≤◌, Bool, true, false, cond, not, ltb, List, [], ◌∷◌, ◌++◌, length, take, drop, Option, Some, None, Ok, Err, refl, sym, ap, subst, ◌∙◌, arith}
 use Rattle.std.specs.Prelude.{ℤ, pos, ◌≤ℤ◌, int_lt, IfOk}
 use Rattle.std.proofs.lemmas.Bool.{ltb-false, not-true, not-false}
-use Rattle.std.proofs.lemmas.List.{get_or-drop, length-drop}
+use Rattle.std.proofs.lemmas.List.{get_or-drop, length-drop, length-take}
 use Rattle.std.proofs.lemmas.Int.{ints}
 use Rattle.opcode_table.specs.declared.insn.Insn.{Insn}
 use Rattle.opcode_table.specs.declared.form.Form.{Form}
@@ -199,7 +199,7 @@ pub decoded_stands : (code : List ℕ) (pc : ℕ) (i : Insn) (n : ℕ) → IsByt
 unfolding decoded
 decoded_stands code pc i n fits e =
     let found = instruction_found code pc (drop pc code) (i, n) refl (λ k. rw get_or-drop (fits (pc + k))) e in
-    record { some = found.some; within = omega (arith, found.some, found.within, length-drop pc code); valid = found.valid; spelled = found.spelled; switch = found.switch }
+    record { some = found.some; within = omega (arith, found.some, found.within, length-drop pc code); valid = found.valid; spelled = found.spelled; size = λ single. omega (arith, ap length (found.spelled single), length-take n (drop pc code), found.within); switch = found.switch }
 
 pub answer_stands : (code : List ℕ) (pc : ℕ) (r : Decoded) → IsBytes code → r ≡ decoded code pc → IfOk r (λ found. Stands code pc found.0 found.1)
 answer_stands code pc (Ok found) fits e = decoded_stands code pc found.0 found.1 fits (sym e)

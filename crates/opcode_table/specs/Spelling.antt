@@ -141,4 +141,5 @@ pub record Stands (code : List ℕ) (pc : ℕ) (insn : Insn) (n : ℕ) : Type 0 
   pub within : pc + n ≤ length code
   pub valid : IsInsn insn
   pub spelled : IsSingle insn → take n (drop pc code) ≡ spelling insn
+  pub size : IsSingle insn → n ≡ length (spelling insn)
   pub switch : HasSwitch code insn

@@ -1,6 +1,6 @@
 //! The bytes of an instruction.
 
-ghost use Rattle.std.specs.Prelude.{◌≡◌, ℕ, ◌≤◌, List, ◌∷◌, ◌++◌, length};
+ghost use Rattle.std.specs.Prelude.{◌≡◌, ℕ, ◌<◌, ◌≤◌, List, ◌∷◌, ◌++◌, length};
 ghost use Rattle.opcode_table.specs.Spelling.{over, spelling, local_bytes, increment_bytes, pool_bytes, branch_bytes, FitsLocal, FitsIncrement, FitsPool, FitsBranch, IsInsn, IsSingle};
 ghost use Rattle.opcode_table.specs.Decoding.{decoded};
 ghost use Rattle.opcode_table.specs.Table.{form_of};
@@ -150,7 +150,9 @@ pub fn encode(insn: &Insn, out: &mut [u8]) -> u32
 #[tactic(auto, unfolding(crate::specs::Spelling::spelling))]
 pub fn length_of(insn: &Insn) -> u32
     requires { IsSingle insn.now }
-    ensures { result ≡ length (spelling insn.now) }
+    ensures exact { result ≡ length (spelling insn.now) }
+    ensures some { 0 < result }
+    ensures few { result ≤ 6 }
 {
     match *insn {
         Insn::Plain(_) => 1,
