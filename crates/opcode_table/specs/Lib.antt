@@ -1,0 +1,10 @@
+pub mod Table
+pub mod Rows
+pub mod Decoding
+pub mod Spelling
+pub mod Bytes
+pub mod Forms
+pub mod Each
+pub mod DecodedAgain
+pub mod DecodedStands
+pub mod Placed
