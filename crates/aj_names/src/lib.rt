@@ -1,0 +1,11 @@
+//! Names, descriptors and modified UTF-8 of class files, both ways, and a reader of big-endian numbers.
+#![tactic(auto)]
+
+mod byte_string;
+mod internal_name;
+mod types;
+
+pub use byte_string::ByteString;
+pub use internal_name::InternalName;
+pub use sqlite_items::Items;
+pub use types::{Base, FieldName, FieldType, MemberName, MethodName, MethodType, NameFault};
