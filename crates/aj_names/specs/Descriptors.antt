@@ -1,7 +1,7 @@
 -- Descriptors of fields and methods (JVMS 4.3.2, 4.3.3): the spelling of a type, and which types
 -- have one.
 use Rattle.std.specs.Prelude.{◌≡◌, ℕ, ◌+◌, ◌<◌, ◌≤◌, ◌⊎◌, List, [], ◌∷◌, ◌++◌, Bool, false, Option, Some, None, IfSome, replicate, if◌then◌else◌, nat_lt}
-use Rattle.std.specs.List.{AllByRecursion, flat_map}
+use Rattle.std.specs.List.{AllByRecursion, flat_map, sum_by}
 use Rattle.aj_names.specs.declared.types.Base.{Base}
 use Rattle.aj_names.specs.declared.types.Base.TheVariants.{Boolean, Byte, Char, Short, Int, Long, Float, Double, Class}
 use Rattle.aj_names.specs.declared.types.FieldType.{FieldType}
@@ -64,8 +64,7 @@ abbrev pub field_slots : FieldType → ℕ
 field_slots t = if nat_lt 0 t.dims then 1 else base_slots t.base
 
 abbrev pub params_slots : List FieldType → ℕ
-params_slots [] = 0
-params_slots (t ∷ ts) = field_slots t + params_slots ts
+params_slots ts = sum_by field_slots ts
 
 -- of the parameters, and one of the receiver where there is one
 abbrev pub method_slots : MethodType → Bool → ℕ

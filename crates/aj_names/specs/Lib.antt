@@ -1,4 +1,5 @@
 pub mod ModifiedUtf8
+pub mod Hierarchy
 pub mod Names
 pub mod Descriptors
 pub mod Faults

@@ -27,8 +27,12 @@ pub record IsUtf8Text (bytes : List ℕ) : Type 0 where
   pub fit : AreUnits units
   pub spelled : bytes ≡ text_spelling units
 
+-- no unit's spelling stands at the front of the bytes
+abbrev pub BeginsNoUnit : List ℕ → Type 0
+BeginsNoUnit bytes = (u : ℕ) (rest : List ℕ) → IsUnit u → ¬ (bytes ≡ unit_spelling u ++ rest)
+
 -- the first n bytes are a text, and no unit's spelling stands behind them: a wrong sequence does
 pub record IsUtf8Fault (bytes : List ℕ) (n : ℕ) : Type 0 where
   pub within : n < length bytes
   pub before : IsUtf8Text (take n bytes)
-  pub wrong : (u : ℕ) (rest : List ℕ) → IsUnit u → ¬ (drop n bytes ≡ unit_spelling u ++ rest)
+  pub wrong : BeginsNoUnit (drop n bytes)

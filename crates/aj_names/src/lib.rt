@@ -2,10 +2,16 @@
 #![tactic(auto)]
 
 mod byte_string;
+mod cursor;
+mod hierarchy;
 mod internal_name;
+mod modified_utf8;
+mod printing;
 mod types;
 
 pub use byte_string::ByteString;
+pub use cursor::Cursor;
+pub use hierarchy::Hierarchy;
 pub use internal_name::InternalName;
 pub use sqlite_items::Items;
 pub use types::{Base, FieldName, FieldType, MemberName, MethodName, MethodType, NameFault};
