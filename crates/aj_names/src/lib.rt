@@ -13,5 +13,6 @@ pub use byte_string::ByteString;
 pub use cursor::Cursor;
 pub use hierarchy::Hierarchy;
 pub use internal_name::InternalName;
+pub use modified_utf8::{is_utf8, utf8_fault, utf8_read, utf8_write};
 pub use sqlite_items::Items;
 pub use types::{Base, FieldName, FieldType, MemberName, MethodName, MethodType, NameFault};

@@ -1,10 +1,11 @@
 //! Field types, method types and names of members.
 
 ghost use Rattle.std.specs.Prelude.{◌≡◌, IfOk};
+ghost use Rattle.aj_names.specs.declared.types.NameFault.TheVariants as faults;
 
 use crate::{ByteString, InternalName};
 use sqlite_items::Items;
-use std::alloc::{AllocError, Global};
+use std::alloc::{AllocError, AllocFailed, Global};
 use thiserror::Error;
 
 /// Why a text is no descriptor, or no modified UTF-8. An offset counts bytes from the text's start,
@@ -19,6 +20,22 @@ pub enum NameFault {
     BadUtf8(u32),
     #[error("out of memory")]
     Memory,
+}
+
+impl From<AllocError> for NameFault {
+    ghost from_gives = { λ _ fault. fault ≡ faults.Memory };
+
+    fn from(_: AllocError) -> NameFault {
+        NameFault::Memory
+    }
+}
+
+impl<T: Drop> From<AllocFailed<T>> for NameFault {
+    ghost from_gives = { λ _ fault. fault ≡ faults.Memory };
+
+    fn from(_: AllocFailed<T>) -> NameFault {
+        NameFault::Memory
+    }
 }
 
 /// A type that isn't an array: primitive, or a class by its name (JVMS 4.3.2).
