@@ -6,6 +6,7 @@ mod cursor;
 mod hierarchy;
 mod internal_name;
 mod modified_utf8;
+mod names;
 mod printing;
 mod types;
 
