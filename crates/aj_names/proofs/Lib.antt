@@ -1,3 +1,4 @@
+pub mod Characters
 pub mod Scans
 pub mod Units
 pub mod Texts

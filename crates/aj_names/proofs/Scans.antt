@@ -1,5 +1,5 @@
 -- Scanning a name byte by byte, as a loop does.
-use Rattle.std.proofs.Common.{◌≡◌, ℕ, List, ◌++◌, Result, Ok, Err}
+use Rattle.std.proofs.Common.{ℕ, List, ◌++◌, Result, Ok}
 use Rattle.aj_names.specs.Reading.{◌>>=◌}
 
 -- the bytes of a name that were read before

@@ -1,6 +1,6 @@
 -- Reading names and descriptors from left to right. A reader gives a value and the bytes behind it,
 -- or how many bytes are left from the first one on with which nothing goes on.
-use Rattle.std.specs.Prelude.{◌≡◌, ℕ, zero, suc, ◌+◌, List, [], ◌∷◌, ◌++◌, length, Bool, true, false, Option, Some, None, Result, Ok, Err, if◌then◌else◌, nat_lt, nat_le, ◌==◌, ◌&&◌, ◌||◌}
+use Rattle.std.specs.Prelude.{◌≡◌, ℕ, zero, suc, List, [], ◌∷◌, length, Bool, true, false, Option, Some, None, Result, Ok, Err, if◌then◌else◌, nat_lt, nat_le, ◌==◌, ◌&&◌, ◌||◌}
 use Rattle.aj_names.specs.declared.types.Base.{Base}
 use Rattle.aj_names.specs.declared.types.Base.TheVariants.{Boolean, Byte, Char, Short, Int, Long, Float, Double, Class}
 use Rattle.aj_names.specs.declared.types.FieldType.{FieldType}
