@@ -1,3 +1,5 @@
+pub mod Fields
+pub mod Readers
 pub mod Characters
 pub mod Scans
 pub mod Units

@@ -1,3 +1,4 @@
+pub mod Spelled
 pub mod Reading
 pub mod ModifiedUtf8
 pub mod Hierarchy

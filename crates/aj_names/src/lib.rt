@@ -3,6 +3,7 @@
 
 mod byte_string;
 mod cursor;
+mod descriptors;
 mod hierarchy;
 mod internal_name;
 mod modified_utf8;
