@@ -1,3 +1,4 @@
+pub mod Methods
 pub mod Fields
 pub mod Readers
 pub mod Characters

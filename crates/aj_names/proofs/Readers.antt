@@ -185,3 +185,20 @@ stop_behind {X = X} R spelling Formed reads text x b after r =
       let whole : spelling x ++ b ∷ more.rest ≡ spelling more.value = sym (append_assoc (spelling x) (b ∷ []) more.rest) ∙ ap (λ (w : List ℕ). w ++ more.rest) (sym taken) ∙ more.spelled in
       let good = subst (λ (w : List ℕ). R w (Ok (more.value, []))) (append-nil (spelling more.value) ∙ sym whole) (reads.again more.value [] more.formed) in
       apart' more.value more.rest (reads.once (spelling x ++ b ∷ more.rest) (Ok (x, b ∷ more.rest)) (Ok (more.value, [])) (reads.again x (b ∷ more.rest) formed) good)
+
+-- a fault behind a front that was read, where more stands behind what reads on
+pub fault_between : {X Y : Type 0} (R : List ℕ → Read X → Type 0) (spelling : X → List ℕ) (Formed : X → Type 0) (R' : List ℕ → Read Y → Type 0) (spelling' : Y → List ℕ) (Formed' : Y → Type 0)
+    (p t : List ℕ) (g : X → Y) → ((bytes : List ℕ) (left : ℕ) → R bytes (Err left) → R' (p ++ bytes) (Err left)) → ((x : X) → Formed x → Formed' (g x)) → ((x : X) → spelling' (g x) ≡ p ++ (spelling x ++ t))
+    → (bytes : List ℕ) (left : ℕ) → Fault R spelling Formed bytes left → Fault R' spelling' Formed' (p ++ bytes) left
+fault_between R spelling Formed R' spelling' Formed' p t g stops forms spells bytes left f =
+    fault_after R (λ x. spelling x ++ t) Formed R' spelling' Formed' p g stops forms spells bytes left (record {
+      front = f.front;
+      rest = f.rest;
+      split = f.split;
+      left_is = f.left_is;
+      value = f.value;
+      formed = f.formed;
+      tail = f.tail ++ t;
+      begins = sym (append_assoc f.front f.tail t) ∙ ap (λ (x : List ℕ). x ++ t) f.begins;
+      stays = f.stays;
+    })
