@@ -48,34 +48,34 @@ lead_is b t e =
     elim (chosen (eqb b 0 || eqb b 46 || eqb b 47 || eqb b 59 || eqb b 91) None _ (Some t) e) [
       | inl (on, same) ↦ absurd cc
       | inr (off, e1) ↦
-        let p = or_parts (eqb b 0 || eqb b 46 || eqb b 47 || eqb b 59) (eqb b 91) off in
-        let q = or_parts (eqb b 0 || eqb b 46 || eqb b 47) (eqb b 59) p.0 in
-        let r = or_parts (eqb b 0 || eqb b 46) (eqb b 47) q.0 in
-        let s = or_parts (eqb b 0) (eqb b 46) r.0 in
-        let n0 : b ≢ 0 = eqb-false b 0 s.0 in
-        elim (chosen (ltb b 0x80) (Some Inside) _ (Some t) e1) [
-          | inl (on, same) ↦ lead_one (omega arith) (ltb-true b 0x80 on) (eqb-false b 46 s.1) (eqb-false b 47 r.1) (eqb-false b 59 q.1) (eqb-false b 91 p.1) (some_is Inside t same)
-          | inr (off1, e2) ↦ elim (chosen (ltb b 0xC2) None _ (Some t) e2) [
-            | inl (on, same) ↦ absurd cc
-            | inr (off2, e3) ↦ elim (chosen (ltb b 0xE0) (Some Last) _ (Some t) e3) [
-              | inl (on, same) ↦ lead_two (ltb-false b 0xC2 off2) (let h = ltb-true b 0xE0 on in omega arith) (some_is Last t same)
-              | inr (off3, e4) ↦ elim (chosen (eqb b 0xE0) (Some BehindE0) _ (Some t) e4) [
-                | inl (on, same) ↦ lead_e0 (eqb-true b 0xE0 on) (some_is BehindE0 t same)
-                | inr (off4, e5) ↦ elim (chosen (eqb b 0xED) (Some BehindED) _ (Some t) e5) [
-                  | inl (on, same) ↦ lead_ed (eqb-true b 0xED on) (some_is BehindED t same)
-                  | inr (off5, e6) ↦ elim (chosen (ltb b 0xF0) (Some Middle) None (Some t) e6) [
-                    | inl (on, same) ↦
-                      let h3 = ltb-false b 0xE0 off3 in
-                      let h4 : b ≢ 224 = eqb-false b 0xE0 off4 in
-                      let h6 = ltb-true b 0xF0 on in
-                      lead_three (omega arith) (omega arith) (eqb-false b 0xED off5) (some_is Middle t same)
-                    | inr (off6, same) ↦ absurd cc
+          let p = or_parts (eqb b 0 || eqb b 46 || eqb b 47 || eqb b 59) (eqb b 91) off in
+          let q = or_parts (eqb b 0 || eqb b 46 || eqb b 47) (eqb b 59) p.0 in
+          let r = or_parts (eqb b 0 || eqb b 46) (eqb b 47) q.0 in
+          let s = or_parts (eqb b 0) (eqb b 46) r.0 in
+          let n0 : b ≢ 0 = eqb-false b 0 s.0 in
+          elim (chosen (ltb b 0x80) (Some Inside) _ (Some t) e1) [
+            | inl (on, same) ↦ lead_one (omega arith) (ltb-true b 0x80 on) (eqb-false b 46 s.1) (eqb-false b 47 r.1) (eqb-false b 59 q.1) (eqb-false b 91 p.1) (some_is Inside t same)
+            | inr (off1, e2) ↦ elim (chosen (ltb b 0xC2) None _ (Some t) e2) [
+              | inl (on, same) ↦ absurd cc
+              | inr (off2, e3) ↦ elim (chosen (ltb b 0xE0) (Some Last) _ (Some t) e3) [
+                | inl (on, same) ↦ lead_two (ltb-false b 0xC2 off2) (let h = ltb-true b 0xE0 on in omega arith) (some_is Last t same)
+                | inr (off3, e4) ↦ elim (chosen (eqb b 0xE0) (Some BehindE0) _ (Some t) e4) [
+                  | inl (on, same) ↦ lead_e0 (eqb-true b 0xE0 on) (some_is BehindE0 t same)
+                  | inr (off4, e5) ↦ elim (chosen (eqb b 0xED) (Some BehindED) _ (Some t) e5) [
+                    | inl (on, same) ↦ lead_ed (eqb-true b 0xED on) (some_is BehindED t same)
+                    | inr (off5, e6) ↦ elim (chosen (ltb b 0xF0) (Some Middle) None (Some t) e6) [
+                      | inl (on, same) ↦
+                          let h3 = ltb-false b 0xE0 off3 in
+                          let h4 : b ≢ 224 = eqb-false b 0xE0 off4 in
+                          let h6 = ltb-true b 0xF0 on in
+                          lead_three (omega arith) (omega arith) (eqb-false b 0xED off5) (some_is Middle t same)
+                      | inr (off6, same) ↦ absurd cc
+                    ]
                   ]
                 ]
               ]
             ]
           ]
-        ]
     ]
 
 special_no : (b : ℕ) → b ≢ 0 → b ≢ 46 → b ≢ 47 → b ≢ 59 → b ≢ 91 → (eqb b 0 || eqb b 46 || eqb b 47 || eqb b 59 || eqb b 91) ≡ false
@@ -113,13 +113,13 @@ six_character : (v : ℕ) → v < 1048576 → character_spelling (65536 + v) ≡
 six_character v high =
     let off : (65536 + v) - 65536 ≡ v = omega arith in
     let a : unit_spelling (55296 + v / 1024) ≡ 237 ∷ (160 + v / 65536) ∷ (128 + v / 1024 % 64) ∷ [] =
-      three_bytes (55296 + v / 1024) (omega arith) ∙ same 224 (omega arith) (omega arith) (omega arith) in
+    three_bytes (55296 + v / 1024) (omega arith) ∙ same 224 (omega arith) (omega arith) (omega arith) in
     let b : unit_spelling (56320 + v % 1024) ≡ 237 ∷ (176 + v / 64 % 16) ∷ (128 + v % 64) ∷ [] =
-      three_bytes (56320 + v % 1024) (omega arith) ∙ same 224 (omega arith) (omega arith) (omega arith) in
+    three_bytes (56320 + v % 1024) (omega arith) ∙ same 224 (omega arith) (omega arith) (omega arith) in
     rw (le-ltb (65536 + v) 0x10000 (omega arith), off, a, b) refl
   where
-  same : {x y z x' y' z' : ℕ} (dummy : ℕ) → x ≡ x' → y ≡ y' → z ≡ z' → x ∷ y ∷ z ∷ [] ≡ x' ∷ y' ∷ z' ∷ []
-  same dummy p q r = cc
+    same : {x y z x' y' z' : ℕ} (dummy : ℕ) → x ≡ x' → y ≡ y' → z ≡ z' → x ∷ y ∷ z ∷ [] ≡ x' ∷ y' ∷ z' ∷ []
+    same dummy p q r = cc
 
 -- ---- from the bytes to the characters
 
@@ -261,8 +261,8 @@ name_six kind b d f g bytes lb hb ld hd lf hf lg hg t =
       tail = t;
     }
   where
-  all_four : {x y z w x' y' z' w' : ℕ} → x ≡ x' → y ≡ y' → z ≡ z' → w ≡ w' → 237 ∷ x ∷ y ∷ 237 ∷ z ∷ w ∷ bytes ≡ 237 ∷ x' ∷ y' ∷ 237 ∷ z' ∷ w' ∷ bytes
-  all_four p q r s = cc
+    all_four : {x y z w x' y' z' w' : ℕ} → x ≡ x' → y ≡ y' → z ≡ z' → w ≡ w' → 237 ∷ x ∷ y ∷ 237 ∷ z ∷ w ∷ bytes ≡ 237 ∷ x' ∷ y' ∷ 237 ∷ z' ∷ w' ∷ bytes
+    all_four p q r s = cc
 
 goes_lead : (kind : NameKind) (b : ℕ) (t : NameState) (bytes : List ℕ) → Lead b t → Goes kind t bytes → Name kind (b ∷ bytes)
 goes_lead kind b t bytes (lead_one low high n46 n47 n59 n91 same) goes =
@@ -278,35 +278,37 @@ goes_lead kind b t bytes (lead_e0 is same) goes =
     let h3 = g.holds.low_is in
     let h4 = g.holds.high_is in
     from_three b bytes g.byte g.after g.holds.byte g.holds.after g.split g.holds.split
-      (name_three kind b g.byte g.holds.byte g.holds.after (omega arith) (omega arith) (omega arith) h2 h3 h4 (omega arith) (inl (omega arith)) g.holds.holds)
+    (name_three kind b g.byte g.holds.byte g.holds.after (omega arith) (omega arith) (omega arith) h2 h3 h4 (omega arith) (inl (omega arith)) g.holds.holds)
   where
-  from_three : (b : ℕ) (bytes : List ℕ) (x : ℕ) (m : List ℕ) (y : ℕ) (n : List ℕ) → bytes ≡ x ∷ m → m ≡ y ∷ n → Name kind (b ∷ x ∷ y ∷ n) → Name kind (b ∷ bytes)
-  from_three b bytes x m y n p q name = subst (λ (w : List ℕ). Name kind (b ∷ w)) (let e : x ∷ y ∷ n ≡ bytes = cc in e) name
+    from_three : (b : ℕ) (bytes : List ℕ) (x : ℕ) (m : List ℕ) (y : ℕ) (n : List ℕ) → bytes ≡ x ∷ m → m ≡ y ∷ n → Name kind (b ∷ x ∷ y ∷ n) → Name kind (b ∷ bytes)
+    from_three b bytes x m y n p q name = subst (λ (w : List ℕ). Name kind (b ∷ w)) (let e : x ∷ y ∷ n ≡ bytes = cc in e) name
 goes_lead kind b t bytes (lead_ed is same) goes =
     let both = subst (λ (x : NameState). Goes kind x bytes) (sym same) goes in
     behind_ed both
   where
-  from_three : (x : ℕ) (m : List ℕ) (y : ℕ) (n : List ℕ) → bytes ≡ x ∷ m → m ≡ y ∷ n → Name kind (b ∷ x ∷ y ∷ n) → Name kind (b ∷ bytes)
-  from_three x m y n p q name = subst (λ (w : List ℕ). Name kind (b ∷ w)) (let e : x ∷ y ∷ n ≡ bytes = cc in e) name
-  from_six : (x : ℕ) (m : List ℕ) (y : ℕ) (n : List ℕ) (z : ℕ) (o : List ℕ) (v : ℕ) (p : List ℕ) (w : ℕ) (q : List ℕ) → bytes ≡ x ∷ m → m ≡ y ∷ n → n ≡ z ∷ o → o ≡ v ∷ p → p ≡ w ∷ q → z ≡ 237
-      → Name kind (237 ∷ x ∷ y ∷ 237 ∷ v ∷ w ∷ q) → Name kind (b ∷ bytes)
-  from_six x m y n z o v p w q e1 e2 e3 e4 e5 e6 name = subst (Name kind) (let e : 237 ∷ x ∷ y ∷ 237 ∷ v ∷ w ∷ q ≡ b ∷ bytes = cc in e) name
-  behind_ed : Goes kind BehindED bytes → Name kind (b ∷ bytes)
-  behind_ed (inl g) =
-      let h1 = g.low_is in
-      let h2 = g.high_is in
-      let h3 = g.holds.low_is in
-      let h4 = g.holds.high_is in
-      from_three g.byte g.after g.holds.byte g.holds.after g.split g.holds.split
+    from_three : (x : ℕ) (m : List ℕ) (y : ℕ) (n : List ℕ) → bytes ≡ x ∷ m → m ≡ y ∷ n → Name kind (b ∷ x ∷ y ∷ n) → Name kind (b ∷ bytes)
+    from_three x m y n p q name = subst (λ (w : List ℕ). Name kind (b ∷ w)) (let e : x ∷ y ∷ n ≡ bytes = cc in e) name
+
+    from_six : (x : ℕ) (m : List ℕ) (y : ℕ) (n : List ℕ) (z : ℕ) (o : List ℕ) (v : ℕ) (p : List ℕ) (w : ℕ) (q : List ℕ) → bytes ≡ x ∷ m → m ≡ y ∷ n → n ≡ z ∷ o → o ≡ v ∷ p → p ≡ w ∷ q → z ≡ 237
+        → Name kind (237 ∷ x ∷ y ∷ 237 ∷ v ∷ w ∷ q) → Name kind (b ∷ bytes)
+    from_six x m y n z o v p w q e1 e2 e3 e4 e5 e6 name = subst (Name kind) (let e : 237 ∷ x ∷ y ∷ 237 ∷ v ∷ w ∷ q ≡ b ∷ bytes = cc in e) name
+
+    behind_ed : Goes kind BehindED bytes → Name kind (b ∷ bytes)
+    behind_ed (inl g) =
+        let h1 = g.low_is in
+        let h2 = g.high_is in
+        let h3 = g.holds.low_is in
+        let h4 = g.holds.high_is in
+        from_three g.byte g.after g.holds.byte g.holds.after g.split g.holds.split
         (name_three kind b g.byte g.holds.byte g.holds.after (omega arith) (omega arith) h1 (omega arith) h3 h4 (omega arith) (inl (omega arith)) g.holds.holds)
-  behind_ed (inr g) =
-      let a = g.holds in
-      let d = a.holds in
-      let f = d.holds in
-      let i = f.holds in
-      let h1 = d.low_is in
-      let h2 = d.high_is in
-      from_six g.byte g.after a.byte a.after d.byte d.after f.byte f.after i.byte i.after g.split a.split d.split f.split i.split (omega arith)
+    behind_ed (inr g) =
+        let a = g.holds in
+        let d = a.holds in
+        let f = d.holds in
+        let i = f.holds in
+        let h1 = d.low_is in
+        let h2 = d.high_is in
+        from_six g.byte g.after a.byte a.after d.byte d.after f.byte f.after i.byte i.after g.split a.split d.split f.split i.split (omega arith)
         (name_six kind g.byte a.byte f.byte i.byte i.after g.low_is g.high_is a.low_is a.high_is f.low_is f.high_is i.low_is i.high_is i.holds)
 goes_lead kind b t bytes (lead_three low high ne same) goes =
     let g : Next 128 191 (Next 128 191 (Tail kind)) bytes = subst (λ (x : NameState). Goes kind x bytes) (sym same) goes in
@@ -315,22 +317,22 @@ goes_lead kind b t bytes (lead_three low high ne same) goes =
     let h3 = g.holds.low_is in
     let h4 = g.holds.high_is in
     let is : IsCharacter ((b - 224) * 4096 + (g.byte - 128) * 64 + (g.holds.byte - 128)) =
-      elim (cases_lt b 237) [ inl h ↦ inl (omega arith) | inr h ↦ let far : 238 ≤ b = omega arith in inr (omega arith, omega arith) ] in
+    elim (cases_lt b 237) [ inl h ↦ inl (omega arith) | inr h ↦ let far : 238 ≤ b = omega arith in inr (omega arith, omega arith) ] in
     from_three g.byte g.after g.holds.byte g.holds.after g.split g.holds.split
-      (name_three kind b g.byte g.holds.byte g.holds.after (omega arith) high h1 h2 h3 h4 (omega arith) is g.holds.holds)
+    (name_three kind b g.byte g.holds.byte g.holds.after (omega arith) high h1 h2 h3 h4 (omega arith) is g.holds.holds)
   where
-  from_three : (x : ℕ) (m : List ℕ) (y : ℕ) (n : List ℕ) → bytes ≡ x ∷ m → m ≡ y ∷ n → Name kind (b ∷ x ∷ y ∷ n) → Name kind (b ∷ bytes)
-  from_three x m y n p q name = subst (λ (w : List ℕ). Name kind (b ∷ w)) (let e : x ∷ y ∷ n ≡ bytes = cc in e) name
+    from_three : (x : ℕ) (m : List ℕ) (y : ℕ) (n : List ℕ) → bytes ≡ x ∷ m → m ≡ y ∷ n → Name kind (b ∷ x ∷ y ∷ n) → Name kind (b ∷ bytes)
+    from_three x m y n p q name = subst (λ (w : List ℕ). Name kind (b ∷ w)) (let e : x ∷ y ∷ n ≡ bytes = cc in e) name
 
 goes_step : (kind : NameKind) (s t : NameState) (b : ℕ) (bytes : List ℕ) → name_after kind s b ≡ Some t → Goes kind t bytes → Goes kind s (b ∷ bytes)
 goes_step kind Start t b bytes e goes = goes_lead kind b t bytes (lead_is b t e) goes
 goes_step kind Inside t b bytes e goes =
     elim (chosen (has_parts kind && eqb b 47) (Some Start) (lead b) (Some t) e) [
       | inl (on, same) ↦
-        let p = and_parts (has_parts kind) (eqb b 47) on in
-        let s = some_is Start t same in
-        let g : Name kind bytes = subst (λ (x : NameState). Goes kind x bytes) (sym s) goes in
-        subst (λ (x : ℕ). Tail kind (x ∷ bytes)) (sym (eqb-true b 47 p.1)) (tail_part kind bytes p.0 g)
+          let p = and_parts (has_parts kind) (eqb b 47) on in
+          let s = some_is Start t same in
+          let g : Name kind bytes = subst (λ (x : NameState). Goes kind x bytes) (sym s) goes in
+          subst (λ (x : ℕ). Tail kind (x ∷ bytes)) (sym (eqb-true b 47 p.1)) (tail_part kind bytes p.0 g)
       | inr (off, e1) ↦ tail_character kind (b ∷ bytes) (goes_lead kind b t bytes (lead_is b t e1) goes)
     ]
 goes_step kind Last t b bytes e goes = next_of kind 128 191 b Inside t bytes e goes
@@ -360,18 +362,18 @@ goes : (kind : NameKind) (s : NameState) (bytes : List ℕ) → ends_name kind s
 goes kind s [] e = goes_end kind s e
 goes kind s (b ∷ bytes) e = on_step (λ t h. goes kind t bytes h) (name_after kind s b) refl e
   where
-  on_step : ((t : NameState) → ends_name kind t bytes ≡ true → Goes kind t bytes) → (o : Option NameState) → name_after kind s b ≡ o → elim o [ None ↦ false | Some next ↦ ends_name kind next bytes ] ≡ true → Goes kind s (b ∷ bytes)
-  on_step more None is e = absurd cc
-  on_step more (Some t) is e = goes_step kind s t b bytes is (more t e)
+    on_step : ((t : NameState) → ends_name kind t bytes ≡ true → Goes kind t bytes) → (o : Option NameState) → name_after kind s b ≡ o → elim o [ None ↦ false | Some next ↦ ends_name kind next bytes ] ≡ true → Goes kind s (b ∷ bytes)
+    on_step more None is e = absurd cc
+    on_step more (Some t) is e = goes_step kind s t b bytes is (more t e)
 
 pub member_found : (bytes : List ℕ) → ends_name Member Start bytes ≡ true → IsMemberName bytes
 member_found bytes e =
     let n = goes Member Start bytes e in
     alone n n.tail.may
   where
-  alone : (n : Name Member bytes) → (n.tail.parts ≡ []) ⊎ (false ≡ true) → IsMemberName bytes
-  alone n (inl none) = subst IsMemberName (sym (name_joined Member bytes n ∙ ap (λ (x : List (List ℕ)). join_with_byte 47 ((character_spelling n.first ++ flat_map character_spelling n.tail.characters) ∷ x)) none)) (first_part Member bytes n)
-  alone n (inr h) = absurd cc
+    alone : (n : Name Member bytes) → (n.tail.parts ≡ []) ⊎ (false ≡ true) → IsMemberName bytes
+    alone n (inl none) = subst IsMemberName (sym (name_joined Member bytes n ∙ ap (λ (x : List (List ℕ)). join_with_byte 47 ((character_spelling n.first ++ flat_map character_spelling n.tail.characters) ∷ x)) none)) (first_part Member bytes n)
+    alone n (inr h) = absurd cc
 
 pub class_found : (bytes : List ℕ) → ends_name Class Start bytes ≡ true → IsClassName bytes
 class_found bytes e =
@@ -442,31 +444,33 @@ over_six kind s b d f g bytes begins lb hb ld hd lf hf lg hg =
 over_three : (kind : NameKind) (s : NameState) (c : ℕ) (bytes : List ℕ) → Begins s → IsNameCharacter c → 2048 ≤ c → c < 65536 → Over kind s ((224 + c / 4096) ∷ (128 + c / 64 % 64) ∷ (128 + c % 64) ∷ []) bytes
 over_three kind s c bytes begins allowed low high = by_lead (cases_lt c 4096) (cases_lt c 53248) (cases_lt c 57344) allowed.character
   where
-  lead_at : (a : ℕ) → 224 + c / 4096 ≡ a → Over kind s (a ∷ (128 + c / 64 % 64) ∷ (128 + c % 64) ∷ []) bytes → Over kind s ((224 + c / 4096) ∷ (128 + c / 64 % 64) ∷ (128 + c % 64) ∷ []) bytes
-  lead_at a e over = subst (λ (x : ℕ). Over kind s (x ∷ (128 + c / 64 % 64) ∷ (128 + c % 64) ∷ []) bytes) (sym e) over
-  by_lead : (c < 4096) ⊎ (4096 ≤ c) → (c < 53248) ⊎ (53248 ≤ c) → (c < 57344) ⊎ (57344 ≤ c) → IsCharacter c → Over kind s ((224 + c / 4096) ∷ (128 + c / 64 % 64) ∷ (128 + c % 64) ∷ []) bytes
-  by_lead (inl x) y z is = lead_at 224 (omega arith) (over_e0 kind s (128 + c / 64 % 64) (128 + c % 64) bytes begins (omega arith) (omega arith) (omega arith) (omega arith))
-  by_lead (inr x) (inl y) z is = over_middle kind s (224 + c / 4096) (128 + c / 64 % 64) (128 + c % 64) bytes begins (omega arith) (omega arith) (λ h. omega arith) (omega arith) (omega arith) (omega arith) (omega arith)
-  by_lead (inr x) (inr y) (inl z) (inl is) = lead_at 237 (omega arith) (over_ed kind s (128 + c / 64 % 64) (128 + c % 64) bytes begins (omega arith) (omega arith) (omega arith) (omega arith))
-  by_lead (inr x) (inr y) (inl z) (inr is) = let h = is.0 in absurd (omega arith)
-  by_lead (inr x) (inr y) (inr z) is = over_middle kind s (224 + c / 4096) (128 + c / 64 % 64) (128 + c % 64) bytes begins (omega arith) (omega arith) (λ h. omega arith) (omega arith) (omega arith) (omega arith) (omega arith)
+    lead_at : (a : ℕ) → 224 + c / 4096 ≡ a → Over kind s (a ∷ (128 + c / 64 % 64) ∷ (128 + c % 64) ∷ []) bytes → Over kind s ((224 + c / 4096) ∷ (128 + c / 64 % 64) ∷ (128 + c % 64) ∷ []) bytes
+    lead_at a e over = subst (λ (x : ℕ). Over kind s (x ∷ (128 + c / 64 % 64) ∷ (128 + c % 64) ∷ []) bytes) (sym e) over
+
+    by_lead : (c < 4096) ⊎ (4096 ≤ c) → (c < 53248) ⊎ (53248 ≤ c) → (c < 57344) ⊎ (57344 ≤ c) → IsCharacter c → Over kind s ((224 + c / 4096) ∷ (128 + c / 64 % 64) ∷ (128 + c % 64) ∷ []) bytes
+    by_lead (inl x) y z is = lead_at 224 (omega arith) (over_e0 kind s (128 + c / 64 % 64) (128 + c % 64) bytes begins (omega arith) (omega arith) (omega arith) (omega arith))
+    by_lead (inr x) (inl y) z is = over_middle kind s (224 + c / 4096) (128 + c / 64 % 64) (128 + c % 64) bytes begins (omega arith) (omega arith) (λ h. omega arith) (omega arith) (omega arith) (omega arith) (omega arith)
+    by_lead (inr x) (inr y) (inl z) (inl is) = lead_at 237 (omega arith) (over_ed kind s (128 + c / 64 % 64) (128 + c % 64) bytes begins (omega arith) (omega arith) (omega arith) (omega arith))
+    by_lead (inr x) (inr y) (inl z) (inr is) = let h = is.0 in absurd (omega arith)
+    by_lead (inr x) (inr y) (inr z) is = over_middle kind s (224 + c / 4096) (128 + c / 64 % 64) (128 + c % 64) bytes begins (omega arith) (omega arith) (λ h. omega arith) (omega arith) (omega arith) (omega arith) (omega arith)
 
 pub over_character : (kind : NameKind) (s : NameState) (c : ℕ) (bytes : List ℕ) → Begins s → IsNameCharacter c → Over kind s (character_spelling c) bytes
 over_character kind s c bytes begins allowed = by_size (cases_lt c 128) (cases_lt c 2048) (cases_lt c 65536) allowed.character
   where
-  spelled : {x : List ℕ} → character_spelling c ≡ x → Over kind s x bytes → Over kind s (character_spelling c) bytes
-  spelled e over = subst (λ (x : List ℕ). Over kind s x bytes) (sym e) over
-  by_size : (c < 128) ⊎ (128 ≤ c) → (c < 2048) ⊎ (2048 ≤ c) → (c < 65536) ⊎ (65536 ≤ c) → IsCharacter c → Over kind s (character_spelling c) bytes
-  by_size (inl x) y z is = let n0 = allowed.not_zero in spelled (one_character c (omega arith) x) (over_one kind s c bytes begins allowed x)
-  by_size (inr x) (inl y) z is = spelled (two_character c x y) (over_two kind s (192 + c / 64) (128 + c % 64) bytes begins (omega arith) (omega arith) (omega arith) (omega arith))
-  by_size (inr x) (inr y) (inl z) is = spelled (three_character c y z) (over_three kind s c bytes begins allowed y z)
-  by_size (inr x) (inr y) (inr z) (inl is) = absurd (omega arith)
-  by_size (inr x) (inr y) (inr z) (inr is) =
-      let h = is.1 in
-      let v : ℕ = c - 65536 in
-      let back : 65536 + v ≡ c = omega arith in
-      let below : v < 1048576 = omega arith in
-      spelled (ap character_spelling (sym back) ∙ six_character v below)
+    spelled : {x : List ℕ} → character_spelling c ≡ x → Over kind s x bytes → Over kind s (character_spelling c) bytes
+    spelled e over = subst (λ (x : List ℕ). Over kind s x bytes) (sym e) over
+
+    by_size : (c < 128) ⊎ (128 ≤ c) → (c < 2048) ⊎ (2048 ≤ c) → (c < 65536) ⊎ (65536 ≤ c) → IsCharacter c → Over kind s (character_spelling c) bytes
+    by_size (inl x) y z is = let n0 = allowed.not_zero in spelled (one_character c (omega arith) x) (over_one kind s c bytes begins allowed x)
+    by_size (inr x) (inl y) z is = spelled (two_character c x y) (over_two kind s (192 + c / 64) (128 + c % 64) bytes begins (omega arith) (omega arith) (omega arith) (omega arith))
+    by_size (inr x) (inr y) (inl z) is = spelled (three_character c y z) (over_three kind s c bytes begins allowed y z)
+    by_size (inr x) (inr y) (inr z) (inl is) = absurd (omega arith)
+    by_size (inr x) (inr y) (inr z) (inr is) =
+        let h = is.1 in
+        let v : ℕ = c - 65536 in
+        let back : 65536 + v ≡ c = omega arith in
+        let below : v < 1048576 = omega arith in
+        spelled (ap character_spelling (sym back) ∙ six_character v below)
         (over_six kind s (160 + v / 65536) (128 + v / 1024 % 64) (176 + v / 64 % 16) (128 + v % 64) bytes begins (omega arith) (omega arith) (omega arith) (omega arith) (omega arith) (omega arith) (omega arith) (omega arith))
 
 over_inside : (kind : NameKind) (characters bytes : List ℕ) → AllByRecursion IsNameCharacter characters → Over kind Inside (flat_map character_spelling characters) bytes

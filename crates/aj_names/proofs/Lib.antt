@@ -1,3 +1,5 @@
+pub mod Whole
+pub mod Loops
 pub mod Methods
 pub mod Fields
 pub mod Readers

@@ -51,11 +51,11 @@ params_step steps b bytes off = ap (λ (c : Bool). cond c (read [] bytes) (field
 params_field : (steps : ℕ) (t : FieldType) (q : List ℕ) → IsFieldType t → params_at (suc steps) (field_spelling t ++ q) ≡ behind_param t (params_at steps q)
 params_field steps t q is = by (field_spelling t ++ q) refl
   where
-  by : (bytes : List ℕ) → field_spelling t ++ q ≡ bytes → params_at (suc steps) bytes ≡ behind_param t (params_at steps q)
-  by [] e = absurd (omega (arith, field_long t, ap length e, length-append (field_spelling t) q))
-  by (b ∷ bytes) e =
-      params_step steps b bytes (ne_eqb b 41 (field_head t q b bytes e).0)
-      ∙ ap (λ (r : Read FieldType). r >>= λ t. behind_param t.0 (params_at steps t.1)) (ap field_at (sym e) ∙ field_type.again t q is)
+    by : (bytes : List ℕ) → field_spelling t ++ q ≡ bytes → params_at (suc steps) bytes ≡ behind_param t (params_at steps q)
+    by [] e = absurd (omega (arith, field_long t, ap length e, length-append (field_spelling t) q))
+    by (b ∷ bytes) e =
+        params_step steps b bytes (ne_eqb b 41 (field_head t q b bytes e).0)
+        ∙ ap (λ (r : Read FieldType). r >>= λ t. behind_param t.0 (params_at steps t.1)) (ap field_at (sym e) ∙ field_type.again t q is)
 
 params_takes : (steps : ℕ) (bytes : List ℕ) (ts : List FieldType) (rest : List ℕ) → params_at steps bytes ≡ Ok (ts, rest) → (bytes ≡ params_spelling ts ++ rest) × AreFieldTypes ts
 params_takes steps [] ts rest e = absurd cc
@@ -63,18 +63,18 @@ params_takes zero (b ∷ bytes) ts rest e = absurd cc
 params_takes (suc steps) (b ∷ bytes) ts rest e =
     elim (chosen (eqb b 41) (read [] bytes) (field_at (b ∷ bytes) >>= λ t. behind_param t.0 (params_at steps t.1)) (read ts rest) e) [
       | inl (on, same) ↦
-        let q = ok_is [] ts bytes rest same in
-        (subst (λ (x : List FieldType). b ∷ bytes ≡ params_spelling x ++ rest) q.0 (ap (λ (x : ℕ). x ∷ bytes) (eqb-true b 41 on) ∙ ap (λ (x : List ℕ). 41 ∷ x) q.1), subst AreFieldTypes q.0 tt)
+          let q = ok_is [] ts bytes rest same in
+          (subst (λ (x : List FieldType). b ∷ bytes ≡ params_spelling x ++ rest) q.0 (ap (λ (x : ℕ). x ∷ bytes) (eqb-true b 41 on) ∙ ap (λ (x : List ℕ). 41 ∷ x) q.1), subst AreFieldTypes q.0 tt)
       | inr (off, same) ↦
-        let d = bind_ok (field_at (b ∷ bytes)) (λ t. behind_param t.0 (params_at steps t.1)) (ts, rest) same in
-        let f = bind_ok (params_at steps d.0.1) (λ us. read (d.0.0 ∷ us.0) us.1) (ts, rest) d.2 in
-        let q = ok_is (d.0.0 ∷ f.0.0) ts f.0.1 rest f.2 in
-        let m = field_type.takes (b ∷ bytes) d.0.0 d.0.1 d.1 in
-        let n = params_takes steps d.0.1 f.0.0 f.0.1 f.1 in
-        let joined : b ∷ bytes ≡ params_spelling (d.0.0 ∷ f.0.0) ++ f.0.1 =
+          let d = bind_ok (field_at (b ∷ bytes)) (λ t. behind_param t.0 (params_at steps t.1)) (ts, rest) same in
+          let f = bind_ok (params_at steps d.0.1) (λ us. read (d.0.0 ∷ us.0) us.1) (ts, rest) d.2 in
+          let q = ok_is (d.0.0 ∷ f.0.0) ts f.0.1 rest f.2 in
+          let m = field_type.takes (b ∷ bytes) d.0.0 d.0.1 d.1 in
+          let n = params_takes steps d.0.1 f.0.0 f.0.1 f.1 in
+          let joined : b ∷ bytes ≡ params_spelling (d.0.0 ∷ f.0.0) ++ f.0.1 =
           m.0 ∙ ap (λ (x : List ℕ). field_spelling d.0.0 ++ x) n.0 ∙ sym (append_assoc (field_spelling d.0.0) (params_spelling f.0.0) f.0.1)
           ∙ ap (λ (x : List ℕ). x ++ f.0.1) (sym (append_assoc (field_spelling d.0.0) (flat_map field_spelling f.0.0) (41 ∷ []))) in
-        (subst (λ (x : List FieldType). b ∷ bytes ≡ params_spelling x ++ rest) q.0 (joined ∙ ap (λ (x : List ℕ). params_spelling (d.0.0 ∷ f.0.0) ++ x) q.1), subst AreFieldTypes q.0 (m.1, n.1))
+          (subst (λ (x : List FieldType). b ∷ bytes ≡ params_spelling x ++ rest) q.0 (joined ∙ ap (λ (x : List ℕ). params_spelling (d.0.0 ∷ f.0.0) ++ x) q.1), subst AreFieldTypes q.0 (m.1, n.1))
     ]
 
 params_cons : (t : FieldType) (ts : List FieldType) (q : List ℕ) → params_spelling (t ∷ ts) ++ q ≡ field_spelling t ++ (params_spelling ts ++ q)
@@ -100,24 +100,25 @@ params_faults (suc steps) (b ∷ bytes) left lt e =
             (λ t is. (is, tt)) (λ t. ap (λ (x : List ℕ). x ++ 41 ∷ []) (append-nil (field_spelling t))) bytes left (field_type.fault (b ∷ bytes) left h)
         | then x h k ↦ elim (bind_err (params_at steps x.1) (λ us. read (x.0 ∷ us.0) us.1) left k) [
           | first m ↦
-            let t = field_type.takes (b ∷ bytes) x.0 x.1 h in
-            let less = field_rest (b ∷ bytes) x.0 x.1 h in
-            subst (λ (w : List ℕ). Fault ReadsParams params_spelling AreFieldTypes w left) (sym t.0)
+              let t = field_type.takes (b ∷ bytes) x.0 x.1 h in
+              let less = field_rest (b ∷ bytes) x.0 x.1 h in
+              subst (λ (w : List ℕ). Fault ReadsParams params_spelling AreFieldTypes w left) (sym t.0)
               (fault_after ReadsParams params_spelling AreFieldTypes ReadsParams params_spelling AreFieldTypes (field_spelling x.0) (λ ts. x.0 ∷ ts)
-                (λ bytes' left' r n. goes_on x.0 t.1 bytes' left' r n)
-                (λ ts are. (t.1, are)) (λ ts. append_assoc (field_spelling x.0) (flat_map field_spelling ts) (41 ∷ [])) x.1 left
-                (params_faults steps x.1 left (omega arith) m))
+              (λ bytes' left' r n. goes_on x.0 t.1 bytes' left' r n)
+              (λ ts are. (t.1, are)) (λ ts. append_assoc (field_spelling x.0) (flat_map field_spelling ts) (41 ∷ [])) x.1 left
+              (params_faults steps x.1 left (omega arith) m))
           | then y m n ↦ absurd cc
         ]
       ]
     ]
   where
-  stops : eqb b 41 ≡ false → (bytes' : List ℕ) (left' : ℕ) → field_at (b ∷ bytes') ≡ Err left' → (n : ℕ) → length (b ∷ bytes') < n → params_at n (b ∷ bytes') ≡ Err left'
-  stops off bytes' left' r zero lt = absurd (omega arith)
-  stops off bytes' left' r (suc n) lt = params_step n b bytes' off ∙ ap (λ (r : Read FieldType). r >>= λ t. behind_param t.0 (params_at n t.1)) r
-  goes_on : (t : FieldType) → IsFieldType t → (bytes' : List ℕ) (left' : ℕ) → ReadsParams bytes' (Err left') → (n : ℕ) → length (field_spelling t ++ bytes') < n → params_at n (field_spelling t ++ bytes') ≡ Err left'
-  goes_on t is bytes' left' r zero lt = absurd (omega arith)
-  goes_on t is bytes' left' r (suc n) lt = params_field n t bytes' is ∙ ap (behind_param t) (r n (omega (arith, field_long t, length-append (field_spelling t) bytes')))
+    stops : eqb b 41 ≡ false → (bytes' : List ℕ) (left' : ℕ) → field_at (b ∷ bytes') ≡ Err left' → (n : ℕ) → length (b ∷ bytes') < n → params_at n (b ∷ bytes') ≡ Err left'
+    stops off bytes' left' r zero lt = absurd (omega arith)
+    stops off bytes' left' r (suc n) lt = params_step n b bytes' off ∙ ap (λ (r : Read FieldType). r >>= λ t. behind_param t.0 (params_at n t.1)) r
+
+    goes_on : (t : FieldType) → IsFieldType t → (bytes' : List ℕ) (left' : ℕ) → ReadsParams bytes' (Err left') → (n : ℕ) → length (field_spelling t ++ bytes') < n → params_at n (field_spelling t ++ bytes') ≡ Err left'
+    goes_on t is bytes' left' r zero lt = absurd (omega arith)
+    goes_on t is bytes' left' r (suc n) lt = params_field n t bytes' is ∙ ap (behind_param t) (r n (omega (arith, field_long t, length-append (field_spelling t) bytes')))
 
 -- ---- results
 
@@ -135,13 +136,13 @@ result_takes [] o rest e = absurd cc
 result_takes (b ∷ bytes) o rest e =
     elim (chosen (eqb b 86) (read None bytes) (some_read (field_at (b ∷ bytes))) (read o rest) e) [
       | inl (on, same) ↦
-        let q = ok_is None o bytes rest same in
-        (subst (λ (x : Option FieldType). b ∷ bytes ≡ result_spelling x ++ rest) q.0 (ap (λ (x : ℕ). x ∷ bytes) (eqb-true b 86 on) ∙ ap (λ (x : List ℕ). 86 ∷ x) q.1), subst IsResult q.0 tt)
+          let q = ok_is None o bytes rest same in
+          (subst (λ (x : Option FieldType). b ∷ bytes ≡ result_spelling x ++ rest) q.0 (ap (λ (x : ℕ). x ∷ bytes) (eqb-true b 86 on) ∙ ap (λ (x : List ℕ). 86 ∷ x) q.1), subst IsResult q.0 tt)
       | inr (off, same) ↦
-        let d = bind_ok (field_at (b ∷ bytes)) (λ t. read (Some t.0) t.1) (o, rest) same in
-        let q = ok_is (Some d.0.0) o d.0.1 rest d.2 in
-        let m = field_type.takes (b ∷ bytes) d.0.0 d.0.1 d.1 in
-        (subst (λ (x : Option FieldType). b ∷ bytes ≡ result_spelling x ++ rest) q.0 (m.0 ∙ ap (λ (x : List ℕ). field_spelling d.0.0 ++ x) q.1), subst IsResult q.0 m.1)
+          let d = bind_ok (field_at (b ∷ bytes)) (λ t. read (Some t.0) t.1) (o, rest) same in
+          let q = ok_is (Some d.0.0) o d.0.1 rest d.2 in
+          let m = field_type.takes (b ∷ bytes) d.0.0 d.0.1 d.1 in
+          (subst (λ (x : Option FieldType). b ∷ bytes ≡ result_spelling x ++ rest) q.0 (m.0 ∙ ap (λ (x : List ℕ). field_spelling d.0.0 ++ x) q.1), subst IsResult q.0 m.1)
     ]
 
 result_step : (b : ℕ) (bytes : List ℕ) → eqb b 86 ≡ false → result_at (b ∷ bytes) ≡ some_read (field_at (b ∷ bytes))
@@ -151,9 +152,9 @@ result_again : (o : Option FieldType) (q : List ℕ) → IsResult o → result_a
 result_again None q is = refl
 result_again (Some t) q is = by (field_spelling t ++ q) refl
   where
-  by : (bytes : List ℕ) → field_spelling t ++ q ≡ bytes → result_at bytes ≡ Ok (Some t, q)
-  by [] e = absurd (omega (arith, field_long t, ap length e, length-append (field_spelling t) q))
-  by (b ∷ bytes) e = result_step b bytes (ne_eqb b 86 (field_head t q b bytes e).1) ∙ ap some_read (ap field_at (sym e) ∙ field_type.again t q is)
+    by : (bytes : List ℕ) → field_spelling t ++ q ≡ bytes → result_at bytes ≡ Ok (Some t, q)
+    by [] e = absurd (omega (arith, field_long t, ap length e, length-append (field_spelling t) q))
+    by (b ∷ bytes) e = result_step b bytes (ne_eqb b 86 (field_head t q b bytes e).1) ∙ ap some_read (ap field_at (sym e) ∙ field_type.again t q is)
 
 result_faults : (bytes : List ℕ) (left : ℕ) → result_at bytes ≡ Err left → Fault ReadsResult result_spelling IsResult bytes left
 result_faults [] left e = subst (λ (n : ℕ). Fault ReadsResult result_spelling IsResult [] n) (err_is (Option FieldType) 0 left e) (fault_cut ReadsResult result_spelling IsResult None tt)
@@ -198,14 +199,14 @@ method_takes [] m rest e = absurd cc
 method_takes (b ∷ bytes) m rest e =
     elim (chosen (eqb b 40) (with_params (params_at (suc (length bytes)) bytes)) (stopped MethodType (suc (length bytes))) (read m rest) e) [
       | inl (on, same) ↦
-        let d = bind_ok (params_at (suc (length bytes)) bytes) (λ ps. with_result ps.0 (result_at ps.1)) (m, rest) same in
-        let f = bind_ok (result_at d.0.1) (λ o. read (method d.0.0 o.0) o.1) (m, rest) d.2 in
-        let q = ok_is (method d.0.0 f.0.0) m f.0.1 rest f.2 in
-        let p = params_takes (suc (length bytes)) bytes d.0.0 d.0.1 d.1 in
-        let r = result_takes d.0.1 f.0.0 f.0.1 f.1 in
-        let joined : b ∷ bytes ≡ method_spelling (method d.0.0 f.0.0) ++ f.0.1 =
+          let d = bind_ok (params_at (suc (length bytes)) bytes) (λ ps. with_result ps.0 (result_at ps.1)) (m, rest) same in
+          let f = bind_ok (result_at d.0.1) (λ o. read (method d.0.0 o.0) o.1) (m, rest) d.2 in
+          let q = ok_is (method d.0.0 f.0.0) m f.0.1 rest f.2 in
+          let p = params_takes (suc (length bytes)) bytes d.0.0 d.0.1 d.1 in
+          let r = result_takes d.0.1 f.0.0 f.0.1 f.1 in
+          let joined : b ∷ bytes ≡ method_spelling (method d.0.0 f.0.0) ++ f.0.1 =
           ap (λ (x : ℕ). x ∷ bytes) (eqb-true b 40 on) ∙ ap (λ (x : List ℕ). 40 ∷ x) (p.0 ∙ ap (λ (x : List ℕ). params_spelling d.0.0 ++ x) r.0) ∙ sym (method_parts d.0.0 f.0.0 f.0.1) in
-        (subst (λ (x : MethodType). b ∷ bytes ≡ method_spelling x ++ rest) q.0 (joined ∙ ap (λ (x : List ℕ). method_spelling (method d.0.0 f.0.0) ++ x) q.1), subst IsMethodType q.0 (record { params = p.1; result = r.1 }))
+          (subst (λ (x : MethodType). b ∷ bytes ≡ method_spelling x ++ rest) q.0 (joined ∙ ap (λ (x : List ℕ). method_spelling (method d.0.0 f.0.0) ++ x) q.1), subst IsMethodType q.0 (record { params = p.1; result = r.1 }))
       | inr (off, same) ↦ absurd cc
     ]
 
@@ -220,23 +221,23 @@ method_faults (b ∷ bytes) left e =
       | inl (on, same) ↦ elim (bind_err (params_at (suc (length bytes)) bytes) (λ ps. with_result ps.0 (result_at ps.1)) left same) [
         | first h ↦ subst (λ (x : ℕ). Fault ReadsMethod method_spelling IsMethodType (x ∷ bytes) left) (sym (eqb-true b 40 on))
             (fault_between ReadsParams params_spelling AreFieldTypes ReadsMethod method_spelling IsMethodType (40 ∷ []) (86 ∷ []) (λ ps. method ps None)
-              (λ bytes' left' r. method_step 40 bytes' refl ∙ ap with_params (r (suc (length bytes')) (omega arith)))
-              (λ ps are. record { params = are; result = tt }) (λ ps. ap (λ (x : List ℕ). 40 ∷ x) (sym (append_assoc (flat_map field_spelling ps) (41 ∷ []) (86 ∷ [])))) bytes left
-              (params_faults (suc (length bytes)) bytes left (omega arith) h))
+            (λ bytes' left' r. method_step 40 bytes' refl ∙ ap with_params (r (suc (length bytes')) (omega arith)))
+            (λ ps are. record { params = are; result = tt }) (λ ps. ap (λ (x : List ℕ). 40 ∷ x) (sym (append_assoc (flat_map field_spelling ps) (41 ∷ []) (86 ∷ [])))) bytes left
+            (params_faults (suc (length bytes)) bytes left (omega arith) h))
         | then x h k ↦ elim (bind_err (result_at x.1) (λ o. read (method x.0 o.0) o.1) left k) [
           | first m ↦
-            let p = params_takes (suc (length bytes)) bytes x.0 x.1 h in
-            subst (λ (w : List ℕ). Fault ReadsMethod method_spelling IsMethodType w left) (ap (λ (y : ℕ). y ∷ (params_spelling x.0 ++ x.1)) (sym (eqb-true b 40 on)) ∙ ap (λ (y : List ℕ). b ∷ y) (sym p.0))
+              let p = params_takes (suc (length bytes)) bytes x.0 x.1 h in
+              subst (λ (w : List ℕ). Fault ReadsMethod method_spelling IsMethodType w left) (ap (λ (y : ℕ). y ∷ (params_spelling x.0 ++ x.1)) (sym (eqb-true b 40 on)) ∙ ap (λ (y : List ℕ). b ∷ y) (sym p.0))
               (fault_after ReadsResult result_spelling IsResult ReadsMethod method_spelling IsMethodType (40 ∷ params_spelling x.0) (λ o. method x.0 o)
-                (λ bytes' left' r. after_params x.0 bytes' p.1 ∙ ap (with_result x.0) r)
-                (λ o is. record { params = p.1; result = is }) (λ o. ap (λ (y : List ℕ). 40 ∷ y) (sym (append_assoc (flat_map field_spelling x.0) (41 ∷ []) (result_spelling o)))) x.1 left
-                (result_faults x.1 left m))
+              (λ bytes' left' r. after_params x.0 bytes' p.1 ∙ ap (with_result x.0) r)
+              (λ o is. record { params = p.1; result = is }) (λ o. ap (λ (y : List ℕ). 40 ∷ y) (sym (append_assoc (flat_map field_spelling x.0) (41 ∷ []) (result_spelling o)))) x.1 left
+              (result_faults x.1 left m))
           | then y m n ↦ absurd cc
         ]
       ]
       | inr (off, same) ↦ subst (λ (n : ℕ). Fault ReadsMethod method_spelling IsMethodType (b ∷ bytes) n) (err_is MethodType (suc (length bytes)) left same)
           (fault_here ReadsMethod method_spelling IsMethodType b bytes (method [] None) (record { params = tt; result = tt })
-            (λ q. ap (λ (c : Bool). cond c (with_params (params_at (suc (length q)) q)) (stopped MethodType (suc (length q)))) off))
+          (λ q. ap (λ (c : Bool). cond c (with_params (params_at (suc (length q)) q)) (stopped MethodType (suc (length q)))) off))
     ]
 
 pub method_type : Reads ReadsMethod method_spelling IsMethodType

@@ -86,13 +86,13 @@ fault_through R spelling Formed R' spelling' Formed' b0 g t stops forms spells b
   stays = λ b after q e. stay f.front f.split b after q e (f.stays b after q e);
 }
   where
-  stay : (front : List ℕ) → b0 ∷ bytes ≡ front ++ f.rest → (b : ℕ) (after q : List ℕ) → f.rest ≡ b ∷ after → R (front ++ b ∷ q) (Err (suc (length q))) → R' (front ++ b ∷ q) (Err (suc (length q)))
-  stay [] split b after q e r =
-      let h = (heads b0 b bytes after (split ∙ e)).0 in
-      subst (λ (x : ℕ). R' (x ∷ q) (Err (suc (length q)))) h (stops q (suc (length q)) (subst (λ (x : ℕ). R (x ∷ q) (Err (suc (length q)))) (sym h) r))
-  stay (c ∷ front) split b after q e r =
-      let h = (heads b0 c bytes (front ++ f.rest) split).0 in
-      subst (λ (x : ℕ). R' (x ∷ (front ++ b ∷ q)) (Err (suc (length q)))) h (stops (front ++ b ∷ q) (suc (length q)) (subst (λ (x : ℕ). R (x ∷ (front ++ b ∷ q)) (Err (suc (length q)))) (sym h) r))
+    stay : (front : List ℕ) → b0 ∷ bytes ≡ front ++ f.rest → (b : ℕ) (after q : List ℕ) → f.rest ≡ b ∷ after → R (front ++ b ∷ q) (Err (suc (length q))) → R' (front ++ b ∷ q) (Err (suc (length q)))
+    stay [] split b after q e r =
+        let h = (heads b0 b bytes after (split ∙ e)).0 in
+        subst (λ (x : ℕ). R' (x ∷ q) (Err (suc (length q)))) h (stops q (suc (length q)) (subst (λ (x : ℕ). R (x ∷ q) (Err (suc (length q)))) (sym h) r))
+    stay (c ∷ front) split b after q e r =
+        let h = (heads b0 c bytes (front ++ f.rest) split).0 in
+        subst (λ (x : ℕ). R' (x ∷ (front ++ b ∷ q)) (Err (suc (length q)))) h (stops (front ++ b ∷ q) (suc (length q)) (subst (λ (x : ℕ). R (x ∷ (front ++ b ∷ q)) (Err (suc (length q)))) (sym h) r))
 
 -- a fault at the first byte, or at the end
 pub fault_here : {X : Type 0} (R : List ℕ → Read X → Type 0) (spelling : X → List ℕ) (Formed : X → Type 0) (b0 : ℕ) (bytes : List ℕ) (x : X) → Formed x → ((q : List ℕ) → R (b0 ∷ q) (Err (suc (length q))))
@@ -148,17 +148,17 @@ stop_at R spelling Formed reads text left r =
       none = λ x formed e. absurd (let h = reads.once text (Err left) (Ok (x, [])) r (subst (λ (w : List ℕ). R w (Ok (x, []))) (append-nil (spelling x) ∙ sym e) (reads.again x [] formed)) in cc);
     }
   where
-  longer : (f : Fault R spelling Formed text left) (rest : List ℕ) → rest ≡ f.rest → length f.front ≡ length text - left → length text - left < length text → Beginning spelling Formed (take (length text - left + 1) text) → ⊥
-  longer f [] e n lt more = omega (arith, ap length f.split, length-append f.front f.rest, ap length e)
-  longer f (b ∷ after) e n lt more =
-      let one : length (f.front ++ b ∷ []) ≡ length text - left + 1 = omega (arith, length-append f.front (b ∷ [])) in
-      let parts : text ≡ (f.front ++ b ∷ []) ++ after = f.split ∙ ap (λ (x : List ℕ). f.front ++ x) (sym e) ∙ sym (append_assoc f.front (b ∷ []) after) in
-      let taken : take (length text - left + 1) text ≡ f.front ++ b ∷ [] = ap (take (length text - left + 1)) parts ∙ take_at (f.front ++ b ∷ []) after (length text - left + 1) one in
-      let whole : f.front ++ b ∷ more.rest ≡ spelling more.value = sym (append_assoc f.front (b ∷ []) more.rest) ∙ ap (λ (x : List ℕ). x ++ more.rest) (sym taken) ∙ more.spelled in
-      let good = subst (λ (w : List ℕ). R w (Ok (more.value, []))) (append-nil (spelling more.value) ∙ sym whole) (reads.again more.value [] more.formed) in
-      let bad = f.stays b after more.rest (sym e) in
-      let h = reads.once (f.front ++ b ∷ more.rest) _ _ good bad in
-      absurd cc
+    longer : (f : Fault R spelling Formed text left) (rest : List ℕ) → rest ≡ f.rest → length f.front ≡ length text - left → length text - left < length text → Beginning spelling Formed (take (length text - left + 1) text) → ⊥
+    longer f [] e n lt more = omega (arith, ap length f.split, length-append f.front f.rest, ap length e)
+    longer f (b ∷ after) e n lt more =
+        let one : length (f.front ++ b ∷ []) ≡ length text - left + 1 = omega (arith, length-append f.front (b ∷ [])) in
+        let parts : text ≡ (f.front ++ b ∷ []) ++ after = f.split ∙ ap (λ (x : List ℕ). f.front ++ x) (sym e) ∙ sym (append_assoc f.front (b ∷ []) after) in
+        let taken : take (length text - left + 1) text ≡ f.front ++ b ∷ [] = ap (take (length text - left + 1)) parts ∙ take_at (f.front ++ b ∷ []) after (length text - left + 1) one in
+        let whole : f.front ++ b ∷ more.rest ≡ spelling more.value = sym (append_assoc f.front (b ∷ []) more.rest) ∙ ap (λ (x : List ℕ). x ++ more.rest) (sym taken) ∙ more.spelled in
+        let good = subst (λ (w : List ℕ). R w (Ok (more.value, []))) (append-nil (spelling more.value) ∙ sym whole) (reads.again more.value [] more.formed) in
+        let bad = f.stays b after more.rest (sym e) in
+        let h = reads.once (f.front ++ b ∷ more.rest) _ _ good bad in
+        absurd cc
 
 pub stop_behind : {X : Type 0} (R : List ℕ → Read X → Type 0) (spelling : X → List ℕ) (Formed : X → Type 0) → Reads R spelling Formed → (text : List ℕ) (x : X) (b : ℕ) (after : List ℕ) → R text (Ok (x, b ∷ after))
     → Stop spelling Formed text (length text - suc (length after))
@@ -173,18 +173,20 @@ stop_behind {X = X} R spelling Formed reads text x b after r =
       none = λ y formed e. apart y (Ok (y, [])) refl (reads.once text (Ok (x, b ∷ after)) (Ok (y, [])) r (subst (λ (w : List ℕ). R w (Ok (y, []))) (append-nil (spelling y) ∙ sym e) (reads.again y [] formed)));
     }
   where
-  apart : (y : X) (s : Read X) → read y [] ≡ s → read x (b ∷ after) ≡ s → ⊥
-  apart y s e h = let k = (ok_is x y (b ∷ after) [] (h ∙ sym e)).1 in cc
-  apart' : (y : X) (q : List ℕ) → read x (b ∷ q) ≡ read y [] → ⊥
-  apart' y q h = let k = (ok_is x y (b ∷ q) [] h).1 in cc
-  longer : text ≡ spelling x ++ b ∷ after → Formed x → length (spelling x) ≡ length text - suc (length after) → Beginning spelling Formed (take (length text - suc (length after) + 1) text) → ⊥
-  longer split formed n more =
-      let one : length (spelling x ++ b ∷ []) ≡ length text - suc (length after) + 1 = omega (arith, length-append (spelling x) (b ∷ [])) in
-      let parts : text ≡ (spelling x ++ b ∷ []) ++ after = split ∙ sym (append_assoc (spelling x) (b ∷ []) after) in
-      let taken : take (length text - suc (length after) + 1) text ≡ spelling x ++ b ∷ [] = ap (take (length text - suc (length after) + 1)) parts ∙ take_at (spelling x ++ b ∷ []) after (length text - suc (length after) + 1) one in
-      let whole : spelling x ++ b ∷ more.rest ≡ spelling more.value = sym (append_assoc (spelling x) (b ∷ []) more.rest) ∙ ap (λ (w : List ℕ). w ++ more.rest) (sym taken) ∙ more.spelled in
-      let good = subst (λ (w : List ℕ). R w (Ok (more.value, []))) (append-nil (spelling more.value) ∙ sym whole) (reads.again more.value [] more.formed) in
-      apart' more.value more.rest (reads.once (spelling x ++ b ∷ more.rest) (Ok (x, b ∷ more.rest)) (Ok (more.value, [])) (reads.again x (b ∷ more.rest) formed) good)
+    apart : (y : X) (s : Read X) → read y [] ≡ s → read x (b ∷ after) ≡ s → ⊥
+    apart y s e h = let k = (ok_is x y (b ∷ after) [] (h ∙ sym e)).1 in cc
+
+    apart' : (y : X) (q : List ℕ) → read x (b ∷ q) ≡ read y [] → ⊥
+    apart' y q h = let k = (ok_is x y (b ∷ q) [] h).1 in cc
+
+    longer : text ≡ spelling x ++ b ∷ after → Formed x → length (spelling x) ≡ length text - suc (length after) → Beginning spelling Formed (take (length text - suc (length after) + 1) text) → ⊥
+    longer split formed n more =
+        let one : length (spelling x ++ b ∷ []) ≡ length text - suc (length after) + 1 = omega (arith, length-append (spelling x) (b ∷ [])) in
+        let parts : text ≡ (spelling x ++ b ∷ []) ++ after = split ∙ sym (append_assoc (spelling x) (b ∷ []) after) in
+        let taken : take (length text - suc (length after) + 1) text ≡ spelling x ++ b ∷ [] = ap (take (length text - suc (length after) + 1)) parts ∙ take_at (spelling x ++ b ∷ []) after (length text - suc (length after) + 1) one in
+        let whole : spelling x ++ b ∷ more.rest ≡ spelling more.value = sym (append_assoc (spelling x) (b ∷ []) more.rest) ∙ ap (λ (w : List ℕ). w ++ more.rest) (sym taken) ∙ more.spelled in
+        let good = subst (λ (w : List ℕ). R w (Ok (more.value, []))) (append-nil (spelling more.value) ∙ sym whole) (reads.again more.value [] more.formed) in
+        apart' more.value more.rest (reads.once (spelling x ++ b ∷ more.rest) (Ok (x, b ∷ more.rest)) (Ok (more.value, [])) (reads.again x (b ∷ more.rest) formed) good)
 
 -- a fault behind a front that was read, where more stands behind what reads on
 pub fault_between : {X Y : Type 0} (R : List ℕ → Read X → Type 0) (spelling : X → List ℕ) (Formed : X → Type 0) (R' : List ℕ → Read Y → Type 0) (spelling' : Y → List ℕ) (Formed' : Y → Type 0)

@@ -14,6 +14,6 @@ behind_dims dims read = read >>= λ x. Ok (record { base = x.0.base; dims = dims
 pub behind_none : (read : Result (FieldType × List ℕ) ℕ) → behind_dims 0 read ≡ read
 behind_none (Ok x) = ap (λ (n : ℕ). ok (record { base = x.0.base; dims = n }) x.1) (zero-add x.0.dims)
   where
-  ok : FieldType → List ℕ → Result (FieldType × List ℕ) ℕ
-  ok t rest = Ok (t, rest)
+    ok : FieldType → List ℕ → Result (FieldType × List ℕ) ℕ
+    ok t rest = Ok (t, rest)
 behind_none (Err left) = refl

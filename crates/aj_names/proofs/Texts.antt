@@ -13,23 +13,23 @@ use Rattle.aj_names.proofs.Units.{Front, one, two, three, front}
 pub unit_split : (u v : ℕ) (x y : List ℕ) → IsUnit u → IsUnit v → unit_spelling u ++ x ≡ unit_spelling v ++ y → (u ≡ v) × (x ≡ y)
 unit_split u v x y fu fv e = split_by u v (unit_spelling v ++ y) x y (front u (unit_spelling v ++ y) x fu (sym e)) (front v (unit_spelling v ++ y) y fv refl)
   where
-  split_by : (u v : ℕ) (bytes x y : List ℕ) → Front u bytes x → Front v bytes y → (u ≡ v) × (x ≡ y)
-  split_by u v bytes x y (one p q s) (one p' q' s') = (cc, cc)
-  split_by u v bytes x y (one p q s) (two p' q' s') = let h : u ≡ 192 + v / 64 = cc in absurd (omega arith)
-  split_by u v bytes x y (one p q s) (three p' q' s') = let h : u ≡ 224 + v / 4096 = cc in absurd (omega arith)
-  split_by u v bytes x y (two p q s) (one p' q' s') = let h : v ≡ 192 + u / 64 = cc in absurd (omega arith)
-  split_by u v bytes x y (two p q s) (two p' q' s') =
-      let h : 192 + u / 64 ≡ 192 + v / 64 = cc in
-      let k : 128 + u % 64 ≡ 128 + v % 64 = cc in
-      (omega arith, cc)
-  split_by u v bytes x y (two p q s) (three p' q' s') = let h : 192 + u / 64 ≡ 224 + v / 4096 = cc in absurd (omega arith)
-  split_by u v bytes x y (three p q s) (one p' q' s') = let h : v ≡ 224 + u / 4096 = cc in absurd (omega arith)
-  split_by u v bytes x y (three p q s) (two p' q' s') = let h : 192 + v / 64 ≡ 224 + u / 4096 = cc in absurd (omega arith)
-  split_by u v bytes x y (three p q s) (three p' q' s') =
-      let h : 224 + u / 4096 ≡ 224 + v / 4096 = cc in
-      let k : 128 + u / 64 % 64 ≡ 128 + v / 64 % 64 = cc in
-      let l : 128 + u % 64 ≡ 128 + v % 64 = cc in
-      (omega arith, cc)
+    split_by : (u v : ℕ) (bytes x y : List ℕ) → Front u bytes x → Front v bytes y → (u ≡ v) × (x ≡ y)
+    split_by u v bytes x y (one p q s) (one p' q' s') = (cc, cc)
+    split_by u v bytes x y (one p q s) (two p' q' s') = let h : u ≡ 192 + v / 64 = cc in absurd (omega arith)
+    split_by u v bytes x y (one p q s) (three p' q' s') = let h : u ≡ 224 + v / 4096 = cc in absurd (omega arith)
+    split_by u v bytes x y (two p q s) (one p' q' s') = let h : v ≡ 192 + u / 64 = cc in absurd (omega arith)
+    split_by u v bytes x y (two p q s) (two p' q' s') =
+        let h : 192 + u / 64 ≡ 192 + v / 64 = cc in
+        let k : 128 + u % 64 ≡ 128 + v % 64 = cc in
+        (omega arith, cc)
+    split_by u v bytes x y (two p q s) (three p' q' s') = let h : 192 + u / 64 ≡ 224 + v / 4096 = cc in absurd (omega arith)
+    split_by u v bytes x y (three p q s) (one p' q' s') = let h : v ≡ 224 + u / 4096 = cc in absurd (omega arith)
+    split_by u v bytes x y (three p q s) (two p' q' s') = let h : 192 + v / 64 ≡ 224 + u / 4096 = cc in absurd (omega arith)
+    split_by u v bytes x y (three p q s) (three p' q' s') =
+        let h : 224 + u / 4096 ≡ 224 + v / 4096 = cc in
+        let k : 128 + u / 64 % 64 ≡ 128 + v / 64 % 64 = cc in
+        let l : 128 + u % 64 ≡ 128 + v % 64 = cc in
+        (omega arith, cc)
 
 unit_not_nil : (u : ℕ) (x : List ℕ) → IsUnit u → [] ≡ unit_spelling u ++ x → ⊥
 unit_not_nil u x fits e = elim (front u [] x fits e) [ one p q s ↦ cc | two p q s ↦ cc | three p q s ↦ cc ]
@@ -54,9 +54,9 @@ text_once us vs fu fv e =
     let b = behind us vs [] fu fv (append-nil (text_spelling us) ∙ e) in
     nothing b.units b.fit b.spelled b.joined
   where
-  nothing : (ws : List ℕ) → AreUnits ws → [] ≡ text_spelling ws → vs ≡ us ++ ws → us ≡ vs
-  nothing [] fw s j = sym (append-nil us) ∙ sym j
-  nothing (w ∷ ws) fw s j = absurd (unit_not_nil w (text_spelling ws) fw.0 s)
+    nothing : (ws : List ℕ) → AreUnits ws → [] ≡ text_spelling ws → vs ≡ us ++ ws → us ≡ vs
+    nothing [] fw s j = sym (append-nil us) ∙ sym j
+    nothing (w ∷ ws) fw s j = absurd (unit_not_nil w (text_spelling ws) fw.0 s)
 
 -- the offset of what is left
 pub record IsCut (bytes before rest : List ℕ) : Type 0 where
@@ -118,9 +118,9 @@ no_fault bytes n f t =
     let b = behind f.before.units t.units (drop n bytes) f.before.fit t.fit joined in
     none b.units b.fit b.spelled
   where
-  none : (ws : List ℕ) → AreUnits ws → drop n bytes ≡ text_spelling ws → ⊥
-  none [] fw s = let within = f.within in omega (arith, ap length s, length-drop n bytes)
-  none (w ∷ ws) fw s = f.wrong w (text_spelling ws) fw.0 s
+    none : (ws : List ℕ) → AreUnits ws → drop n bytes ≡ text_spelling ws → ⊥
+    none [] fw s = let within = f.within in omega (arith, ap length s, length-drop n bytes)
+    none (w ∷ ws) fw s = f.wrong w (text_spelling ws) fw.0 s
 
 -- what a reader finds, or refuses, is the one text of the bytes
 pub the_text : (bytes : List ℕ) (vs : List ℕ) → AreUnits vs → bytes ≡ text_spelling vs → (us : List ℕ) → AreUnits us → bytes ≡ text_spelling us → us ≡ vs

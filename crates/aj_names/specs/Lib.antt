@@ -5,3 +5,4 @@ pub mod Hierarchy
 pub mod Names
 pub mod Descriptors
 pub mod Faults
+pub mod Slots

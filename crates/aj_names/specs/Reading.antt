@@ -1,10 +1,16 @@
 -- Reading names and descriptors from left to right. A reader gives a value and the bytes behind it,
 -- or how many bytes are left from the first one on with which nothing goes on.
-use Rattle.std.specs.Prelude.{◌≡◌, ℕ, zero, suc, List, [], ◌∷◌, length, Bool, true, false, Option, Some, None, Result, Ok, Err, if◌then◌else◌, nat_lt, nat_le, ◌==◌, ◌&&◌, ◌||◌}
+use Rattle.std.specs.Prelude.{◌≡◌, ℕ, zero, suc, List, [], ◌∷◌, length, Bool, true, false, Option, Some, None, Result, Ok, Err, if◌then◌else◌, nat_lt, nat_le, ◌==◌, ◌&&◌, ◌||◌, ◌-◌, ◌^◌, min}
 use Rattle.aj_names.specs.declared.types.Base.{Base}
 use Rattle.aj_names.specs.declared.types.Base.TheVariants.{Boolean, Byte, Char, Short, Int, Long, Float, Double, Class}
 use Rattle.aj_names.specs.declared.types.FieldType.{FieldType}
 use Rattle.aj_names.specs.declared.types.MethodType.{MethodType}
+use Rattle.aj_names.specs.declared.types.NameFault.{NameFault}
+use Rattle.aj_names.specs.declared.types.NameFault.TheVariants as faults
+use Rattle.aj_names.specs.declared.reading.Stopped.{Stopped}
+use Rattle.aj_names.specs.declared.reading.Stopped.TheVariants as stops
+use Rattle.aj_names.specs.Faults.{held_offset}
+use Rattle.aj_names.specs.Descriptors.{params_slots}
 use Rattle.aj_names.specs.declared.names.NameKind.{NameKind}
 use Rattle.aj_names.specs.declared.names.NameKind.TheVariants as kinds
 use Rattle.aj_names.specs.declared.names.NameState.{NameState}
@@ -134,3 +140,29 @@ method_at (b ∷ bytes) =
 -- all of the bytes
 abbrev pub whole : {X : Type 0} → Result (X × List ℕ) ℕ → Result X ℕ
 whole read = read >>= λ x. elim (length x.1) [ zero ↦ Ok x.0 | suc n ↦ Err (suc n) ]
+
+-- What a call answers of a whole text, unless memory ran out.
+abbrev pub AnswersFault : {X : Type 0} → List ℕ → NameFault → Result X ℕ → Type 0
+AnswersFault text (faults.BadDescriptor at) read = (left : ℕ) × (read ≡ Err left) × (at ≡ held_offset (length text - left))
+AnswersFault text (faults.BadUtf8 at) read = ⊥
+AnswersFault text faults.Memory read = Unit {0}
+
+abbrev pub Answers : {X : Type 0} → List ℕ → Result X NameFault → Result X ℕ → Type 0
+Answers text (Ok x) read = read ≡ Ok x
+Answers text (Err fault) read = AnswersFault text fault read
+
+-- What a function returned, seen by view, is what reading gives, unless memory ran out.
+abbrev pub Stops : {Y : Type 0} → Stopped → Result Y ℕ → Type 0
+Stops (stops.Left left) read = read ≡ Err left
+Stops stops.Memory read = Unit {0}
+
+abbrev pub GivesUnless : {X Y : Type 0} → (X → Y) → Result X Stopped → Result Y ℕ → Type 0
+GivesUnless view (Ok x) read = read ≡ Ok (view x)
+GivesUnless view (Err stop) read = Stops stop read
+
+-- the slots of what was read, which stand at the last number of 32 bits
+abbrev pub counted : Result (List FieldType × List ℕ) ℕ → Result (ℕ × List ℕ) ℕ
+counted read = read >>= λ x. Ok (min (params_slots x.0) (2 ^ 32 - 1), x.1)
+
+abbrev pub method_counted : Result MethodType ℕ → Result ℕ ℕ
+method_counted read = read >>= λ m. Ok (min (params_slots m.params) (2 ^ 32 - 1))

@@ -2,6 +2,7 @@
 
 ghost use Rattle.std.specs.Prelude.{◌≡◌, IfOk};
 ghost use Rattle.aj_names.specs.Reading.{Gives, base_in, primitives, base_at, field_at};
+ghost use Rattle.aj_names.specs.Descriptors.{field_slots};
 ghost use Rattle.aj_names.specs.Spelled.{base_of, type_of};
 ghost use Rattle.std.specs.Option.{option_map};
 
@@ -99,6 +100,15 @@ impl SpelledBase<'_> {
 }
 
 impl SpelledType<'_> {
+    pub(crate) fn slots(self) -> u32
+        ensures { result ≡ field_slots (type_of self.entry) }
+    {
+        match self.base {
+            SpelledBase::Long | SpelledBase::Double if self.dims == 0 => 2,
+            _ => 1,
+        }
+    }
+
     pub(crate) fn to_type(self, alloc: Global) -> Result<FieldType, AllocError>
         ensures { IfOk result (λ t. t ≡ type_of self.entry) }
     {

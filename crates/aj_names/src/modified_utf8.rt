@@ -45,8 +45,9 @@ fn three_bytes(lead: u8, after: &[u8]) -> Option<(u16, &[u8])>
     if !is_continuation(*last) {
         return None;
     }
-    let unit =
-        u16::from(lead - 0xe0) * 4096 + u16::from(*middle - 0x80) * 64 + u16::from(*last - 0x80);
+    let unit = u16::from(lead - 0xe0) * 4096
+        + u16::from(*middle - 0x80) * 64
+        + u16::from(*last - 0x80);
     if unit >= 0x800 {
         Some((unit, rest))
     } else {

@@ -109,3 +109,18 @@ pub(crate) fn class_name_at(bytes: &[u8]) -> Result<(&[u8], &[u8]), usize>
     }
     Err(0)
 }
+
+/// Whether the bytes are the name of a class or interface: one or more parts with `/` between them
+/// (JVMS 4.2).
+pub fn is_class_name(bytes: &[u8]) -> bool
+    ensures { IsTrue result ↔ IsClassName bytes.now }
+{
+    is_name(NameKind::Class, bytes)
+}
+
+/// Whether the bytes are the name of a member, or one part of a class name (JVMS 4.2).
+pub fn is_member_name(bytes: &[u8]) -> bool
+    ensures { IsTrue result ↔ IsMemberName bytes.now }
+{
+    is_name(NameKind::Member, bytes)
+}
