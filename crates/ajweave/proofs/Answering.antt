@@ -1,0 +1,208 @@
+-- What a run answers, from how its command ended and what was printed.
+use Rattle.std.proofs.Common.{◌≡◌, ◌≢◌, ◌↔◌, ℕ, ◌⊎◌, inl, inr, List, [], ◌++◌, Option, Some, None, Result, Ok, Err, refl, ap, sym, ◌∙◌, subst}
+use Rattle.std.specs.Prelude.{IfSome}
+use Rattle.std.specs.Option.{option_map}
+use Rattle.std.proofs.lemmas.List.{append-nil}
+use Rattle.aj_outside.specs.Files.{Files}
+use Rattle.class_format.specs.declared.class_file.ClassFile.{ClassFile}
+use Rattle.jp_model.specs.declared.first_aspect.FirstAspect.{FirstAspect}
+use Rattle.ajweave.specs.declared.status.Refusal.TheVariants.{NotBuilt}
+use Rattle.ajweave.specs.declared.status.Status.{Status}
+use Rattle.ajweave.specs.declared.status.Status.TheVariants as status
+use Rattle.ajweave.specs.declared.stop.Stop.{Stop}
+use Rattle.ajweave.specs.declared.stop.Stop.TheVariants as stop
+use Rattle.ajweave.specs.Words.{Folders, usage_line, not_built_line}
+use Rattle.ajweave.specs.Answers.{AnswersPrinted, AnswersRead, AnswersDone, IsRefused, IsValid, Wrote, WritesWeaving, BehavesAsWritten, WritesExactly, WritesUntouched, WritesDeclared, OnTold, Commanded, CommandedTo, CommandedSome, KeepsShelf, IsDue, PrintsPart, Prints}
+use Rattle.ajweave.specs.Steps.{Ends, PrintsFor, Reports}
+use Rattle.ajweave.proofs.Refusals.{IsRefused-same, IsValid-never_refused}
+
+abbrev pub Ended : Type 0
+Ended = Result (Unit {0}) Stop
+
+abbrev pub Text : Type 0
+Text = Option (List ℕ)
+
+abbrev some_text : List ℕ → Text
+some_text text = Some text
+
+abbrev refusal : List ℕ → Status
+refusal name = status.Refused (NotBuilt name)
+
+refusal-same : (a b : List ℕ) → refusal a ≡ refusal b → a ≡ b
+refusal-same a b h = cc
+
+-- ---- one weaving has each of the views
+
+Wrote-weaker : (P Q : List ClassFile → List FirstAspect → List ClassFile → Type 0) → ((c : List ClassFile) (a : List FirstAspect) (w : List ClassFile) → P c a w → Q c a w) → (folders : Folders) (before after : Files) → Wrote P folders before after → Wrote Q folders before after
+Wrote-weaker P Q f folders before after h = record {
+  classes = h.classes;
+  aspects = h.aspects;
+  written = h.written;
+  reads = h.reads;
+  files = h.files;
+  holds = f h.classes h.aspects h.written h.holds;
+}
+
+CommandedTo-weaker : (P Q : Folders → Files → Files → Type 0) → ((f : Folders) (b a : Files) → P f b a → Q f b a) → (command : Option Folders) (before after : Option Files) → CommandedTo command before after P → CommandedTo command before after Q
+CommandedTo-weaker P Q f None before after h = absurd h
+CommandedTo-weaker P Q f (Some folders) None after h = h
+CommandedTo-weaker P Q f (Some folders) (Some before) None h = absurd h
+CommandedTo-weaker P Q f (Some folders) (Some before) (Some after) h = f folders before after h
+
+pub behaves_by : (command : Option Folders) (before after : Option Files) → CommandedTo command before after WritesWeaving → CommandedTo command before after BehavesAsWritten
+behaves_by = CommandedTo-weaker WritesWeaving BehavesAsWritten (Wrote-weaker _ _ (λ c a w h. h.behaves))
+
+pub written_by : (command : Option Folders) (before after : Option Files) → CommandedTo command before after WritesWeaving → CommandedTo command before after WritesExactly
+written_by = CommandedTo-weaker WritesWeaving WritesExactly (Wrote-weaker _ _ (λ c a w h. h.extended))
+
+pub untouched_by : (command : Option Folders) (before after : Option Files) → CommandedTo command before after WritesWeaving → CommandedTo command before after WritesUntouched
+untouched_by = CommandedTo-weaker WritesWeaving WritesUntouched (Wrote-weaker _ _ (λ c a w h. h.untouched))
+
+pub declared_by : (command : Option Folders) (before after : Option Files) → CommandedTo command before after WritesWeaving → CommandedTo command before after WritesDeclared
+declared_by = CommandedTo-weaker WritesWeaving WritesDeclared (Wrote-weaker _ _ (λ c a w h. h.declared))
+
+-- ---- an answer after a command
+
+-- the cases of how a command ended and of what was answered
+after_command : (P : Ended → Status → Type 0) → ((x : Unit {0}) → P (Ok x) status.Done) → P (Err stop.Read) status.ReadFault → P (Err stop.Write) status.WriteFault → P (Err stop.Memory) status.OutOfMemory → ((name : List ℕ) → P (Err (stop.NotBuilt name)) (status.Refused (NotBuilt name))) → ((name : List ℕ) → P (Err (stop.NotBuilt name)) status.PrintFault) → ((name : List ℕ) → P (Err (stop.NotBuilt name)) status.OutOfMemory) → (ended : Ended) (result : Status) (before now : Text) → Reports ended result before now → P ended result
+after_command P done read write memory refused unprinted unmade (Ok x) result before now r = subst (P (Ok x)) (sym r.0) (done x)
+after_command P done read write memory refused unprinted unmade (Err stop.Read) result before now r = subst (P (Err stop.Read)) (sym r.0) read
+after_command P done read write memory refused unprinted unmade (Err stop.Write) result before now r = subst (P (Err stop.Write)) (sym r.0) write
+after_command P done read write memory refused unprinted unmade (Err stop.Memory) result before now r = subst (P (Err stop.Memory)) (sym r.0) memory
+after_command P done read write memory refused unprinted unmade (Err (stop.NotBuilt name)) result before now r = by r
+  where
+    by : PrintsFor (status.Refused (NotBuilt name)) (not_built_line name) result before now → P (Err (stop.NotBuilt name)) result
+    by (inl p) = subst (P (Err (stop.NotBuilt name))) (sym p.0) (refused name)
+    by (inr (inl e, q)) = subst (P (Err (stop.NotBuilt name))) (sym e) (unprinted name)
+    by (inr (inr e, q)) = subst (P (Err (stop.NotBuilt name))) (sym e) (unmade name)
+
+pub done_ended : (folders : Folders) (held held_now : Option Files) (ended : Ended) (result : Status) (before now : Text) → Reports ended result before now → Ends ended folders held held_now → result ≡ status.Done → CommandedTo (Some folders) held held_now WritesWeaving × IfSome held (λ files. IsValid folders.input files)
+done_ended folders held held_now =
+    after_command (λ ended result. Ends ended folders held held_now → result ≡ status.Done → CommandedTo (Some folders) held held_now WritesWeaving × IfSome held (λ files. IsValid folders.input files))
+    (λ x e d. e) (λ e d. cc) (λ e d. cc) (λ e d. cc) (λ name e d. cc) (λ name e d. cc) (λ name e d. cc)
+
+pub done_valid : (folders : Folders) (held : Option Files) → IfSome held (λ files. IsValid folders.input files) → Commanded (Some folders) held (λ folders files. IsValid folders.input files)
+done_valid folders None h = tt
+done_valid folders (Some files) h = h
+
+pub command_never_usage : (ended : Ended) (result : Status) (before now : Text) → Reports ended result before now → result ≡ status.Usage → ⊥
+command_never_usage =
+    after_command (λ ended result. result ≡ status.Usage → ⊥) (λ x d. cc) (λ d. cc) (λ d. cc) (λ d. cc) (λ name d. cc) (λ name d. cc) (λ name d. cc)
+
+pub read_ended : (ended : Ended) (result : Status) (before now : Text) → Reports ended result before now → (result ≡ status.ReadFault) ↔ (ended ≡ Err stop.Read)
+read_ended =
+    after_command (λ ended result. (result ≡ status.ReadFault) ↔ (ended ≡ Err stop.Read))
+    (λ x. (λ d. cc, λ d. cc)) (λ d. refl, λ d. refl) (λ d. cc, λ d. cc) (λ d. cc, λ d. cc) (λ name. (λ d. cc, λ d. cc)) (λ name. (λ d. cc, λ d. cc)) (λ name. (λ d. cc, λ d. cc))
+
+pub write_ended : (ended : Ended) (result : Status) (before now : Text) → Reports ended result before now → (result ≡ status.WriteFault) ↔ (ended ≡ Err stop.Write)
+write_ended =
+    after_command (λ ended result. (result ≡ status.WriteFault) ↔ (ended ≡ Err stop.Write))
+    (λ x. (λ d. cc, λ d. cc)) (λ d. cc, λ d. cc) (λ d. refl, λ d. refl) (λ d. cc, λ d. cc) (λ name. (λ d. cc, λ d. cc)) (λ name. (λ d. cc, λ d. cc)) (λ name. (λ d. cc, λ d. cc))
+
+abbrev RefusedFor : Folders → Option Files → Status → Type 0
+RefusedFor folders held result =
+    OnTold (Some folders) held (λ folders files. (name : List ℕ) → IsRefused folders.input files name → AnswersRead (status.Refused (NotBuilt name)) result)
+
+pub refused_ended : (folders : Folders) (held held_now : Option Files) (ended : Ended) (result : Status) (before now : Text) → Reports ended result before now → Ends ended folders held held_now → RefusedFor folders held result
+refused_ended folders None held_now ended result before now r e = tt
+refused_ended folders (Some files) held_now ended result before now r e =
+    after_command (λ ended result. Ends ended folders (Some files) held_now → (name : List ℕ) → IsRefused folders.input files name → AnswersRead (status.Refused (NotBuilt name)) result)
+    (λ x e name h. absurd (IsValid-never_refused folders.input files name e.1 h))
+    (λ e name h. inl refl)
+    (λ e name h. absurd (IsValid-never_refused folders.input files name e.1 h))
+    (λ e name h. inr (inr (inr refl)))
+    (λ other e name h. inr (inl (ap (λ (n : List ℕ). refusal n) (IsRefused-same folders.input files other name e.1 h))))
+    (λ other e name h. inr (inr (inl refl)))
+    (λ other e name h. inr (inr (inr refl)))
+    ended result before now r e
+
+pub refused_only_ended : (folders : Folders) (held held_now : Option Files) (ended : Ended) (result : Status) (before now : Text) → Reports ended result before now → Ends ended folders held held_now → (name : List ℕ) → result ≡ status.Refused (NotBuilt name) → Commanded (Some folders) held (λ folders files. IsRefused folders.input files name)
+refused_only_ended folders None held_now ended result before now r e name is = tt
+refused_only_ended folders (Some files) held_now ended result before now r e name is =
+    after_command (λ ended result. Ends ended folders (Some files) held_now → result ≡ status.Refused (NotBuilt name) → IsRefused folders.input files name)
+    (λ x e d. cc) (λ e d. cc) (λ e d. cc) (λ e d. cc)
+    (λ other e d. subst (λ (n : List ℕ). IsRefused folders.input files n) (refusal-same other name d) e.1)
+    (λ other e d. cc) (λ other e d. cc)
+    ended result before now r e is
+
+pub complete_ended : (folders : Folders) (held held_now : Option Files) (ended : Ended) (result : Status) (before now : Text) → Reports ended result before now → Ends ended folders held held_now → OnTold (Some folders) held (λ folders files. IsValid folders.input files → AnswersDone result)
+complete_ended folders None held_now ended result before now r e = tt
+complete_ended folders (Some files) held_now ended result before now r e =
+    after_command (λ ended result. Ends ended folders (Some files) held_now → IsValid folders.input files → AnswersDone result)
+    (λ x e v. inl refl)
+    (λ e v. inr (inl refl))
+    (λ e v. inr (inr (inl refl)))
+    (λ e v. inr (inr (inr refl)))
+    (λ name e v. absurd (IsValid-never_refused folders.input files name v e.1))
+    (λ name e v. absurd (IsValid-never_refused folders.input files name v e.1))
+    (λ name e v. inr (inr (inr refl)))
+    ended result before now r e
+
+pub kept_ended : (folders : Folders) (held held_now : Option Files) (ended : Ended) (result : Status) (before now : Text) → Reports ended result before now → Ends ended folders held held_now → KeepsShelf result held held_now
+kept_ended folders held held_now =
+    after_command (λ ended result. Ends ended folders held held_now → KeepsShelf result held held_now)
+    (λ x e. tt) (λ e. e) (λ e. tt) (λ e. tt) (λ name e. e.0) (λ name e. e.0) (λ name e. tt)
+
+pub some_ended : (folders : Folders) (held held_now : Option Files) (ended : Ended) (result : Status) (before now : Text) → Reports ended result before now → Ends ended folders held held_now → result ≡ status.WriteFault → CommandedSome (Some folders) held held_now
+some_ended folders held held_now =
+    after_command (λ ended result. Ends ended folders held held_now → result ≡ status.WriteFault → CommandedSome (Some folders) held held_now)
+    (λ x e d. cc) (λ e d. cc) (λ e d. e.0) (λ e d. cc) (λ name e d. cc) (λ name e d. cc) (λ name e d. cc)
+
+pub memory_ended : (folders : Folders) (held held_now : Option Files) (ended : Ended) (result : Status) (before now : Text) → Reports ended result before now → Ends ended folders held held_now → result ≡ status.OutOfMemory → (held_now ≡ held) ⊎ CommandedSome (Some folders) held held_now
+memory_ended folders held held_now =
+    after_command (λ ended result. Ends ended folders held held_now → result ≡ status.OutOfMemory → (held_now ≡ held) ⊎ CommandedSome (Some folders) held held_now)
+    (λ x e d. cc) (λ e d. cc) (λ e d. cc) (λ e d. e) (λ name e d. cc) (λ name e d. cc) (λ name e d. inl e.0)
+
+-- ---- what was printed
+
+printed_nothing : (before now : Text) → now ≡ before → now ≡ option_map (λ text. text ++ []) before
+printed_nothing None now same = same
+printed_nothing (Some text) now same = same ∙ ap (λ (t : List ℕ). some_text t) (sym (append-nil text))
+
+prints_for : (command : Option Folders) (held : Option Files) (answer : Status) (text : List ℕ) (result : Status) (before now : Text) → IsDue command held text → (now ≡ option_map (λ written. written ++ text) before → Prints answer command held before now) → PrintsFor answer text result before now → Prints result command held before now
+prints_for command held answer text result before now due whole (inl p) = subst (λ (s : Status). Prints s command held before now) (sym p.0) (whole p.1)
+prints_for command held answer text result before now due whole (inr (e, inl same)) = part e (inl same)
+  where
+    part : (result ≡ status.PrintFault) ⊎ (result ≡ status.OutOfMemory) → PrintsPart command held before now → Prints result command held before now
+    part (inl e) p = subst (λ (s : Status). Prints s command held before now) (sym e) p
+    part (inr e) p = subst (λ (s : Status). Prints s command held before now) (sym e) p
+prints_for command held answer text result before now due whole (inr (e, inr some)) = part e (inr (text, due, some))
+  where
+    part : (result ≡ status.PrintFault) ⊎ (result ≡ status.OutOfMemory) → PrintsPart command held before now → Prints result command held before now
+    part (inl e) p = subst (λ (s : Status). Prints s command held before now) (sym e) p
+    part (inr e) p = subst (λ (s : Status). Prints s command held before now) (sym e) p
+
+pub printed_ended : (folders : Folders) (held held_now : Option Files) (ended : Ended) (result : Status) (before now : Text) → Reports ended result before now → Ends ended folders held held_now → Prints result (Some folders) held before now
+printed_ended folders held held_now (Ok x) result before now r e =
+    subst (λ (s : Status). Prints s (Some folders) held before now) (sym r.0) (printed_nothing before now r.1)
+printed_ended folders held held_now (Err stop.Read) result before now r e =
+    subst (λ (s : Status). Prints s (Some folders) held before now) (sym r.0) (printed_nothing before now r.1)
+printed_ended folders held held_now (Err stop.Write) result before now r e =
+    subst (λ (s : Status). Prints s (Some folders) held before now) (sym r.0) (printed_nothing before now r.1)
+printed_ended folders held held_now (Err stop.Memory) result before now r e =
+    subst (λ (s : Status). Prints s (Some folders) held before now) (sym r.0) (inl r.1)
+printed_ended folders held held_now (Err (stop.NotBuilt name)) result before now r e =
+    prints_for (Some folders) held (status.Refused (NotBuilt name)) (not_built_line name) result before now (name, refl, e.1) (λ p. p) r
+
+-- ---- the answer where there is no command
+
+-- the cases of the answer
+without_command : (P : Status → Type 0) → P status.Usage → P status.PrintFault → P status.OutOfMemory → (result : Status) (before now : Text) → PrintsFor status.Usage usage_line result before now → P result
+without_command P usage unprinted unmade result before now (inl p) = subst P (sym p.0) usage
+without_command P usage unprinted unmade result before now (inr (inl e, q)) = subst P (sym e) unprinted
+without_command P usage unprinted unmade result before now (inr (inr e, q)) = subst P (sym e) unmade
+
+pub usage_answers : (result : Status) (before now : Text) → PrintsFor status.Usage usage_line result before now → AnswersPrinted status.Usage result
+usage_answers = without_command (AnswersPrinted status.Usage) (inl refl) (inr (inl refl)) (inr (inr refl))
+
+-- it is none of the other answers
+pub usage_never : (result : Status) (before now : Text) → PrintsFor status.Usage usage_line result before now → (result ≢ status.Done) × (result ≢ status.ReadFault) × (result ≢ status.WriteFault) × ((name : List ℕ) → result ≢ status.Refused (NotBuilt name))
+usage_never =
+    without_command (λ result. (result ≢ status.Done) × (result ≢ status.ReadFault) × (result ≢ status.WriteFault) × ((name : List ℕ) → result ≢ status.Refused (NotBuilt name)))
+    (λ d. cc, λ d. cc, λ d. cc, λ name d. cc) (λ d. cc, λ d. cc, λ d. cc, λ name d. cc) (λ d. cc, λ d. cc, λ d. cc, λ name d. cc)
+
+pub usage_kept : (held : Option Files) (result : Status) (before now : Text) → PrintsFor status.Usage usage_line result before now → KeepsShelf result held held
+usage_kept held = without_command (λ result. KeepsShelf result held held) refl refl tt
+
+pub usage_printed : (held : Option Files) (result : Status) (before now : Text) → PrintsFor status.Usage usage_line result before now → Prints result None held before now
+usage_printed held result before now r = prints_for None held status.Usage usage_line result before now refl (λ p. p) r

@@ -1,0 +1,7 @@
+pub mod Answered
+pub mod Answering
+pub mod Cut
+pub mod Reading
+pub mod Refusals
+pub mod Weaving
+pub mod Writing

@@ -1,0 +1,9 @@
+use Rattle.std.proofs.Common.{rules, tests}
+use Rattle.class_format.specs.FirstForm.{is_letter_or_digit}
+use Rattle.std.proofs.lemmas.Iterator.{YieldsList-from_slice}
+use Rattle.std.proofs.lemmas.Iterator.Search.{all_from_yields_List}
+use Rattle.aspect_form.proofs.tokens.has_letters_and_digits.Goals as goal
+
+pub returns : goal.returns
+returns c =
+    all_from_yields_List is_letter_or_digit _ _ _ c.all.ensures.ran (YieldsList-from_slice c.args.word.now cc) (λ x b q k. search (rules, tests))

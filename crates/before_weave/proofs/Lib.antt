@@ -1,0 +1,10 @@
+mod Walks
+mod Appended
+mod Advised
+mod Forms
+mod WovenClass
+mod Untouched
+mod Declared
+mod Writable
+mod Sound
+mod Whole

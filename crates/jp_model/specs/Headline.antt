@@ -1,0 +1,175 @@
+-- What weaving promises of the classes that it writes.
+use Rattle.std.specs.Prelude.{◌≡◌, ◌≢◌, ℕ, ◌+◌, ◌==◌, not, Bool, true, false, IsTrue, List, [], ◌∷◌, ◌++◌, length, map, codes, Option, Some, None, slice_get, Ok}
+use Rattle.std.specs.List.{filter, AllZip, AllByRecursion, starts_with}
+use Rattle.event_machine.specs.Equivalent.{Equivalent}
+use Rattle.event_machine.specs.Observation.{IsPrefix}
+use Rattle.aj_outside.specs.Files.{Files, put_each}
+use Rattle.opcode_table.specs.declared.insn.Insn.{Insn}
+use Rattle.opcode_table.specs.Decoding.{decoded}
+use Rattle.class_format.specs.declared.class_file.ClassFile.{ClassFile}
+use Rattle.class_format.specs.declared.class_file.Member.{Member}
+use Rattle.class_format.specs.declared.class_file.Attribute.{Attribute}
+use Rattle.class_format.specs.declared.class_file.Content.{Content}
+use Rattle.class_format.specs.declared.class_file.Content.TheVariants as content
+use Rattle.class_format.specs.Spelling.{spelling}
+use Rattle.class_format.specs.Range.{is_writable}
+use Rattle.class_format.specs.Sound.{pool_is_sound}
+use Rattle.class_format.specs.Pool.{Reference, this_name, super_name, text_at}
+use Rattle.jp_model.specs.Values.{object_class}
+use Rattle.jp_model.specs.Events.{is_broken}
+use Rattle.jp_model.specs.Aspects.{Aspect}
+use Rattle.jp_model.specs.JoinPoints.{chain_of}
+use Rattle.jp_model.specs.JoinPointMachine.{aspect_step, aspect_start}
+use Rattle.jp_model.specs.Classes.{Method, method_of, method_named, line_at, entry_of, no_parameters, class_step, class_start}
+
+-- ---- every run
+
+-- the method is an entry method of the classes: a static one, without parameters, with this code
+pub record IsEntry (classes : List ClassFile) (r : Reference) (m : Method) : Type 0 where
+  pub found : method_named classes r ≡ Some m
+  pub parameters : r.member.descriptor ≡ no_parameters
+  pub ordinary : r.member.name ≢ codes "<clinit>"
+
+-- The written classes have the entry method, and from it they print and end exactly as and when the
+-- join point machine does on the original classes and aspects.
+pub record RunsAlike (classes : List ClassFile) (aspects : List Aspect) (written : List ClassFile) (r : Reference) (m : Method) : Type 0 where
+  pub method : Method
+  pub found : method_named written r ≡ Some method
+  pub same : Equivalent is_broken
+      (aspect_step classes aspects) (aspect_start classes (entry_of r m))
+      (class_step written) (class_start written (entry_of r method))
+
+-- from every entry method
+abbrev pub Behaves : List ClassFile → List Aspect → List ClassFile → Type 0
+Behaves classes aspects written = (r : Reference) (m : Method) → IsEntry classes r m → RunsAlike classes aspects written r m
+
+-- ---- the written files
+
+-- one class for each input class, and then one for each aspect, each with its name
+abbrev pub AreExtended : List ClassFile → List Aspect → List ClassFile → Type 0
+AreExtended classes aspects written = map this_name written ≡ map this_name classes ++ map (λ a. Some a.name) aspects
+
+-- a class's own name, where it has one
+abbrev pub named_so : Option (List ℕ) → List ℕ
+named_so None = []
+named_so (Some name) = name
+
+-- OUT/NAME.class
+abbrev pub output_name : List ℕ → ClassFile → List ℕ
+output_name folder c = folder ++ (47 ∷ (named_so (this_name c) ++ codes ".class"))
+
+abbrev pub output : List ℕ → ClassFile → List ℕ × List ℕ
+output folder c = (output_name folder c, spelling c)
+
+-- the files to write, in byte order of their names
+abbrev pub outputs_of : List ℕ → List ClassFile → Files
+outputs_of folder written = put_each [] (map (output folder) written)
+
+-- the shelf's files with that of each written class set, and nothing else changed
+abbrev pub with_outputs : List ℕ → List ClassFile → Files → Files
+with_outputs folder written files = put_each files (outputs_of folder written)
+
+-- ---- untouched classes
+
+-- an instruction of the code begins at the place
+pub data IsStart (code : List ℕ) : ℕ → Type 0 where
+  First : IsStart code 0
+  Behind : (pc : ℕ) (insn : Insn) (size : ℕ) → IsStart code pc → decoded code pc ≡ Ok (insn, size) → IsStart code (pc + size)
+
+-- no place of a method of the class has a chain
+abbrev pub IsUntouched : List Aspect → ClassFile → Type 0
+IsUntouched aspects c =
+    (place : ℕ) (m : Member) (method : Method) (pc : ℕ) → slice_get c.methods place ≡ Some m → method_of c m ≡ Some method
+    → IsStart method.code.code pc → chain_of aspects (line_at pc method) ≡ []
+
+abbrev pub KeepsUntouched : List Aspect → ClassFile → ClassFile → Type 0
+KeepsUntouched aspects c written = IsUntouched aspects c → spelling written ≡ spelling c
+
+-- The written classes, first those of the input's classes: an untouched one has the input's bytes.
+pub record HoldsUntouched (classes : List ClassFile) (aspects : List Aspect) (written : List ClassFile) : Type 0 where
+  pub woven : List ClassFile
+  pub made : List ClassFile
+  pub parts : written ≡ woven ++ made
+  pub kept : AllZip (KeepsUntouched aspects) classes woven
+
+-- ---- declared members
+
+abbrev pub is_code : Attribute → Bool
+is_code a = is_code_content a.content where
+  is_code_content : Content → Bool
+  is_code_content (content.Code code) = true
+  is_code_content _ = false
+
+-- a member but for its code
+abbrev pub declared_member : Member → Member
+declared_member m = record { flags = m.flags; name = m.name; descriptor = m.descriptor; attributes = filter (λ a. not (is_code a)) m.attributes }
+
+-- the text has this one in it
+abbrev pub has_within : List ℕ → List ℕ → Bool
+has_within part [] = starts_with (λ a b. a == b) [] part
+has_within part (b ∷ text) = if_starts (starts_with (λ a b. a == b) (b ∷ text) part) (has_within part text) where
+  if_starts : Bool → Bool → Bool
+  if_starts true rest = true
+  if_starts false rest = rest
+
+-- the name is generated: it has `ajc$` in it
+abbrev pub is_generated : Option (List ℕ) → Bool
+is_generated None = false
+is_generated (Some name) = has_within (codes "ajc$") name
+
+-- the members that are no generated ones, but for their code
+abbrev pub declared_members : ClassFile → List Member → List Member
+declared_members c members = map declared_member (filter (λ m. not (is_generated (text_at c.pool m.name))) members)
+
+-- The written class is the input class but for generated members and for code: it has its pool entries
+-- at their indices, its version, flags, superclass, interfaces and class attributes, and exactly its
+-- members.
+pub record KeepsDeclared (c written : ClassFile) : Type 0 where
+  pub pool : IsPrefix c.pool written.pool
+  pub minor : written.minor ≡ c.minor
+  pub major : written.major ≡ c.major
+  pub flags : written.flags ≡ c.flags
+  pub this_class : written.this_class ≡ c.this_class
+  pub super_class : written.super_class ≡ c.super_class
+  pub interfaces : written.interfaces ≡ c.interfaces
+  pub attributes : written.attributes ≡ c.attributes
+  pub fields : declared_members written written.fields ≡ map declared_member c.fields
+  pub methods : declared_members written written.methods ≡ map declared_member c.methods
+
+-- The class of an aspect: public, of Java 1.2, without a superclass of its own, and with no members but
+-- a generated method for each advice.
+pub record IsAspectClass (a : Aspect) (written : ClassFile) : Type 0 where
+  pub name : this_name written ≡ Some a.name
+  pub super_class : super_name written ≡ Some object_class
+  pub minor : written.minor ≡ 0
+  pub major : written.major ≡ 46
+  pub flags : written.flags.0 ≡ 33
+  pub interfaces : written.interfaces ≡ []
+  pub attributes : written.attributes ≡ []
+  pub fields : written.fields ≡ []
+  pub methods : declared_members written written.methods ≡ []
+  pub advice : length written.methods ≡ length a.advice
+
+-- The written classes, first those of the input's classes and then those of the aspects.
+pub record HoldsDeclared (classes : List ClassFile) (aspects : List Aspect) (written : List ClassFile) : Type 0 where
+  pub woven : List ClassFile
+  pub made : List ClassFile
+  pub parts : written ≡ woven ++ made
+  pub members : AllZip KeepsDeclared classes woven
+  pub generated : AllZip IsAspectClass aspects made
+
+-- ---- all of it
+
+-- a class that files can hold
+pub record IsWritten (written : ClassFile) : Type 0 where
+  pub writable : IsTrue (is_writable written)
+  pub sound : IsTrue (pool_is_sound written.pool)
+
+-- The written classes are a weaving of the aspects into the classes. Each is a class file: its numbers
+-- fit their fields, so that its spelling is its own, and its pool is sound.
+pub record IsWeaving (classes : List ClassFile) (aspects : List Aspect) (written : List ClassFile) : Type 0 where
+  pub formed : AllByRecursion IsWritten written
+  pub extended : AreExtended classes aspects written
+  pub behaves : Behaves classes aspects written
+  pub untouched : HoldsUntouched classes aspects written
+  pub declared : HoldsDeclared classes aspects written

@@ -1,0 +1,12 @@
+pub mod Values
+pub mod Events
+pub mod Effect
+pub mod Machine
+pub mod Classes
+pub mod Aspects
+pub mod JoinPoints
+pub mod JoinPointMachine
+pub mod AspectText
+pub mod Input
+pub mod Headline
+pub mod Example

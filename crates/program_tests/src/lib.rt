@@ -1,0 +1,7 @@
+//! Tests of the whole program over shelves and sinks in memory.
+#![tactic(auto)]
+
+#[cfg(test)]
+mod classes;
+#[cfg(test)]
+mod tests;

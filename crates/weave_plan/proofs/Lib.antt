@@ -1,0 +1,4 @@
+pub mod Refused
+pub mod Weavings
+pub mod Placed
+pub mod Steps

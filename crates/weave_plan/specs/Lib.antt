@@ -1,0 +1,4 @@
+pub mod Plan
+pub mod Parsed
+pub mod Fit
+pub mod Places

@@ -1,0 +1,9 @@
+//! From the files that were read to the files to write, in memory alone: which classes and aspects the
+//! files say, whether each is of a form that is built, and the woven classes.
+#![tactic(auto)]
+
+mod outputs;
+mod parsing;
+mod planning;
+
+pub use planning::{NamedFile, PlanFault, plan};

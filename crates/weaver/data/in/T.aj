@@ -1,0 +1,5 @@
+aspect T {
+  before(): call(void C.m()) {
+    System.out.println("a");
+  }
+}

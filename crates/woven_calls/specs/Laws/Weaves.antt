@@ -1,0 +1,249 @@
+-- A woven class carries out the advice, and so does a class without a place for it as it was.
+use Rattle.std.proofs.Common.{◌≡◌, ◌≢◌, ℕ, ◌<◌, ◌==◌, Bool, true, false, not, ◌&&◌, nat_lt, nat_le, bytes_eq, IsTrue, List, [], ◌∷◌, ◌++◌, length, Option, Some, None, refl, sym, ap, ◌∙◌, subst, codes, option_and_then, arith}
+use Rattle.std.specs.List.{list_all, AllByRecursion, AllZip}
+use Rattle.std.proofs.lemmas.Bool.{and_parts, ltb-true}
+use Rattle.opcode_table.specs.declared.insn.Insn.{Insn}
+use Rattle.opcode_table.specs.declared.insn.Insn.TheVariants as insn
+use Rattle.opcode_table.specs.Table.{opcode}
+use Rattle.opcode_table.specs.Spelling.{spelling, IsInsn, IsSingle}
+use Rattle.class_format.specs.declared.pool.PoolEntry.{PoolEntry}
+use Rattle.class_format.specs.declared.class_file.ClassFile.{ClassFile}
+use Rattle.class_format.specs.declared.class_file.Member.{Member}
+use Rattle.class_format.specs.declared.class_file.Attribute.{Attribute}
+use Rattle.class_format.specs.declared.class_file.Content.TheVariants as content
+use Rattle.class_format.specs.declared.class_file.CodeAttr.{CodeAttr}
+use Rattle.class_format.specs.Sound.{is_some_that, pool_is_sound}
+use Rattle.class_format.specs.Range.{is_writable}
+use Rattle.class_format.specs.Pool.{NamedType, text_at, this_name, super_name, member_type}
+use Rattle.class_format.specs.FirstForm.{is_identifier, is_printable_text, is_form_insn, insns_pass, is_plain_code, has_form_code, is_text, is_form_attribute, is_single, has_form_flags, is_form_method, method_names, are_distinct, has_known_version, has_short_lists, has_form_names, has_form_methods, has_kept_attributes, own_name, object_class, no_arguments, is_first_form}
+use Rattle.jp_model.specs.declared.first_aspect.FirstAspect.{FirstAspect}
+use Rattle.jp_model.specs.AspectText.{aspect_of, is_short_identifier, is_unescaped, is_literal, is_first_aspect}
+use Rattle.jp_model.specs.Aspects.{Advice}
+use Rattle.jp_model.specs.JoinPoints.{chain_of}
+use Rattle.jp_model.specs.Classes.{named_type, when_no_parameters, operation}
+use Rattle.jp_model.specs.Headline.{Behaves}
+use Rattle.woven_calls.specs.Woven.{is_empty, unless, is_unadvised, woven_insn, IsWovenCode, call_entries, call_index, with_code, IsWovenMethod, IsWovenClass, IsUnadvisedCode, IsUnadvisedMethod, IsUnadvised, aspect_class}
+use Rattle.woven_calls.specs.Laws.Pools.{Extends, extends_append, extends_same, text_kept, class_kept, member_kept, call_names}
+use Rattle.woven_calls.specs.Laws.Forms.{has_meaning, all_pass}
+use Rattle.woven_calls.specs.Laws.AspectClass.{advice_reference}
+use Rattle.woven_calls.specs.Laws.Places.{Written, IsCarried}
+use Rattle.woven_calls.specs.Laws.Lookups.{IsCarriedCode, IsCarriedMember, behaves}
+
+-- ---- what the form says
+
+is_there : {X : Type 0} (test : X → Bool) (o : Option X) → is_some_that test o ≡ true → (x : X) × (o ≡ Some x) × (test x ≡ true)
+is_there test None h = let apart : false ≡ true = h in absurd cc
+is_there test (Some x) h = (x, refl, h)
+
+record HasForm (c : ClassFile) : Type 0 where
+  own : List ℕ
+  named : this_name c ≡ Some own
+  identifier : is_identifier own ≡ true
+  short : length c.pool < 10000
+  methods : list_all (is_form_method c.pool own (method_names c)) c.methods ≡ true
+
+has_form : (c : ClassFile) → IsTrue (is_first_form c) → HasForm c
+has_form c h =
+    let p1 = and_parts (is_writable c) (has_known_version c && (has_short_lists c && (pool_is_sound c.pool && (has_form_names c && (has_form_methods c && has_kept_attributes c))))) h in
+    let p2 = and_parts (has_known_version c) (has_short_lists c && (pool_is_sound c.pool && (has_form_names c && (has_form_methods c && has_kept_attributes c)))) p1.1 in
+    let p3 = and_parts (has_short_lists c) (pool_is_sound c.pool && (has_form_names c && (has_form_methods c && has_kept_attributes c))) p2.1 in
+    let p4 = and_parts (pool_is_sound c.pool) (has_form_names c && (has_form_methods c && has_kept_attributes c)) p3.1 in
+    let p5 = and_parts (has_form_names c) (has_form_methods c && has_kept_attributes c) p4.1 in
+    let p6 = and_parts (has_form_methods c) (has_kept_attributes c) p5.1 in
+    let lists = and_parts (nat_lt (length c.pool) 10000) (length c.interfaces == 0 && (length c.fields == 0 && nat_le (length c.methods) 100)) p3.0 in
+    let names = and_parts (is_some_that is_identifier (this_name c)) (is_some_that (bytes_eq object_class) (super_name c)) p5.0 in
+    let name = is_there is_identifier (this_name c) names.0 in
+    let methods = and_parts (are_distinct (method_names c)) (list_all (is_form_method c.pool (own_name (this_name c)) (method_names c)) c.methods) p6.0 in
+    record {
+      own = name.0;
+      named = name.1;
+      identifier = name.2;
+      short = ltb-true (length c.pool) 10000 lists.0;
+      methods = subst (λ (o : Option (List ℕ)). list_all (is_form_method c.pool (own_name o) (method_names c)) c.methods ≡ true) name.1 methods.1;
+    }
+
+-- the aspect's name is an identifier, and its text printable
+aspect_form : (a : FirstAspect) → IsTrue (is_first_aspect a) → IsTrue (is_identifier a.name) × IsTrue (is_printable_text a.text)
+aspect_form a h =
+    let p1 = and_parts (is_short_identifier a.name) (not (bytes_eq a.name (codes "System")) && (is_short_identifier a.class && (is_short_identifier a.method && is_literal a.text))) h in
+    let p2 = and_parts (not (bytes_eq a.name (codes "System"))) (is_short_identifier a.class && (is_short_identifier a.method && is_literal a.text)) p1.1 in
+    let p3 = and_parts (is_short_identifier a.class) (is_short_identifier a.method && is_literal a.text) p2.1 in
+    let p4 = and_parts (is_short_identifier a.method) (is_literal a.text) p3.1 in
+    ((and_parts (is_identifier a.name) (nat_le (length a.name) 1000) p1.0).0, (and_parts (is_printable_text a.text) (list_all is_unescaped a.text && nat_le (length a.text) 65535) p4.1).0)
+
+zipped : {X : Type 0} (P Q R : X → Type 0) → ((x : X) → P x → Q x → R x) → (xs : List X) → AllByRecursion P xs → AllByRecursion Q xs → AllByRecursion R xs
+zipped P Q R h [] p q = tt
+zipped P Q R h (x ∷ xs) p q = (h x p.0 q.0, zipped P Q R h xs p.1 q.1)
+
+-- a method of the form
+module _ (own : List ℕ) (methods : List (List ℕ)) (pool : List PoolEntry) (m : Member) (h : is_form_method pool own methods m ≡ true) where
+  parts : (is_some_that is_identifier (text_at pool m.name) ≡ true) × (is_text pool no_arguments m.descriptor ≡ true) × (is_single (is_form_attribute pool own methods) m.attributes ≡ true)
+  parts =
+      let p1 = and_parts (has_form_flags m.flags.0) (is_some_that is_identifier (text_at pool m.name) && (is_text pool no_arguments m.descriptor && is_single (is_form_attribute pool own methods) m.attributes)) h in
+      let p2 = and_parts (is_some_that is_identifier (text_at pool m.name)) (is_text pool no_arguments m.descriptor && is_single (is_form_attribute pool own methods) m.attributes) p1.1 in
+      let p3 = and_parts (is_text pool no_arguments m.descriptor) (is_single (is_form_attribute pool own methods) m.attributes) p2.1 in
+      (p2.0, p3.0, p3.1)
+
+  type_of : (type : NamedType) × (member_type pool m ≡ Some type)
+  type_of =
+      let name = is_there is_identifier (text_at pool m.name) parts.0 in
+      let descriptor = is_there (bytes_eq no_arguments) (text_at pool m.descriptor) parts.1 in (
+        named_type name.0 descriptor.0,
+        ap (option_and_then (λ n. option_and_then (λ d. Some (named_type n d)) (text_at pool m.descriptor))) name.1
+            ∙ ap (option_and_then (λ d. Some (named_type name.0 d))) descriptor.1,
+      )
+
+  insns_of : (name : ℕ) (code : CodeAttr) → m.attributes ≡ with_code name code → insns_pass (is_form_insn pool own methods) code.code (length code.code) 0 ≡ true
+  insns_of name code is =
+      let one : is_form_attribute pool own methods (record { name = name; content = content.Code code }) ≡ true = subst (λ (l : List Attribute). is_single (is_form_attribute pool own methods) l ≡ true) is parts.2 in
+      let inside = and_parts (is_text pool (codes "Code") name) (has_form_code pool own methods code) one in
+      (and_parts (is_plain_code code) (insns_pass (is_form_insn pool own methods) code.code (length code.code) 0) inside.1).1
+
+  -- the one attribute is named Code
+  named_code : (name : ℕ) (code : CodeAttr) → m.attributes ≡ with_code name code → is_text pool (codes "Code") name ≡ true
+  named_code name code is =
+      let one : is_form_attribute pool own methods (record { name = name; content = content.Code code }) ≡ true = subst (λ (l : List Attribute). is_single (is_form_attribute pool own methods) l ≡ true) is parts.2 in
+      (and_parts (is_text pool (codes "Code") name) (has_form_code pool own methods code) one).0
+
+-- the name of an attribute stays that in a longer pool
+named_longer : (pool more : List PoolEntry) → Extends pool more → (name : ℕ) → is_text pool (codes "Code") name ≡ true → is_text more (codes "Code") name ≡ true
+named_longer pool more longer name named =
+    let text = is_there (bytes_eq (codes "Code")) (text_at pool name) named in
+    ap (is_some_that (bytes_eq (codes "Code"))) (text_kept pool more longer name text.0 text.1) ∙ text.2
+
+-- ---- woven
+
+module _ (a : FirstAspect) (own : List ℕ) (methods : List (List ℕ)) (pool : List PoolEntry) (short : length pool < 10000) where
+  abbrev longer : List PoolEntry
+  longer = pool ++ call_entries pool a
+
+  call_fits : IsInsn (insn.Pool 184 (call_index pool))
+  unfolding opcode
+  call_fits = omega (arith, short)
+
+  woven_as : (chain : List Advice) (i : Insn) → Written longer (advice_reference a) chain i (unless (is_empty chain) (spelling (insn.Pool 184 (call_index pool))) ++ spelling i)
+  woven_as [] i = refl
+  woven_as (b ∷ rest) i = record {
+    call = insn.Pool 184 (call_index pool);
+    insn = call_fits;
+    single = tt;
+    means = ap (option_and_then when_no_parameters) (call_names pool a);
+    spelled = refl;
+  }
+
+  woven_code : (code : CodeAttr) (bytes : List ℕ) → IsWovenCode pool a (call_index pool) code.code bytes → insns_pass (is_form_insn pool own methods) code.code (length code.code) 0 ≡ true
+      → IsCarriedCode a own pool longer code (record { max_stack = code.max_stack; max_locals = code.max_locals; code = bytes; entries = code.entries; attributes = code.attributes })
+  woven_code code bytes x passes = record {
+    stack = refl;
+    locals = refl;
+    insns = x.insns;
+    bytes = woven_insn pool a (call_index pool);
+    carried = zipped (λ i. IsInsn i × IsSingle i) (λ i. is_form_insn pool own methods i ≡ true) (IsCarried a own pool longer (woven_insn pool a (call_index pool)))
+        (λ i valid form. record { insn = valid.0; single = valid.1; meaning = has_meaning pool longer own methods (extends_append pool (call_entries pool a)) i form; written = woven_as (chain_of (aspect_of a ∷ []) (operation pool i)) i })
+        x.insns x.single (all_pass (is_form_insn pool own methods) code.code (length code.code) 0 x.insns x.single x.before passes);
+    before = x.before;
+    after = x.after;
+  }
+
+  woven_method : (m m' : Member) → is_form_method pool own methods m ≡ true → IsWovenMethod pool a (call_index pool) m m' → IsCarriedMember a own pool longer m m'
+  woven_method m m' form x =
+      let type = type_of own methods pool m form in
+      let kept = member_kept pool longer (extends_append pool (call_entries pool a)) m type.0 type.1 in
+      subst (IsCarriedMember a own pool longer m) (sym x.after) (record {
+        flags = refl;
+        type = type.0;
+        typed = type.1;
+        typed' = kept;
+        name = x.name;
+        name' = x.name;
+        code = x.code;
+        code' = _;
+        attributes = x.before;
+        attributes' = refl;
+        coded = named_code own methods pool m form x.name x.code x.before;
+        coded' = named_longer pool longer (extends_append pool (call_entries pool a)) x.name (named_code own methods pool m form x.name x.code x.before);
+        carried = woven_code x.code x.bytes x.woven (insns_of own methods pool m form x.name x.code x.before);
+      })
+
+  woven_methods : (ms ms' : List Member) → list_all (is_form_method pool own methods) ms ≡ true → AllZip (IsWovenMethod pool a (call_index pool)) ms ms' → AllZip (IsCarriedMember a own pool longer) ms ms'
+  woven_methods [] [] form all = tt
+  woven_methods [] (m' ∷ ms') form all = absurd all
+  woven_methods (m ∷ ms) [] form all = absurd all
+  woven_methods (m ∷ ms) (m' ∷ ms') form all =
+      let p = and_parts (is_form_method pool own methods m) (list_all (is_form_method pool own methods) ms) form in
+      (woven_method m m' p.0 all.0, woven_methods ms ms' p.1 all.1)
+
+pub woven_behaves : (c w : ClassFile) (a : FirstAspect) → IsTrue (is_first_form c) → IsTrue (is_first_aspect a) → this_name c ≢ Some a.name → IsWovenClass a c w → Behaves (c ∷ []) (aspect_of a ∷ []) (w ∷ aspect_class a ∷ [])
+woven_behaves c w a form aspect apart x =
+    let f = has_form c form in
+    let b = aspect_form a aspect in
+    subst (λ (w : ClassFile). Behaves (c ∷ []) (aspect_of a ∷ []) (w ∷ aspect_class a ∷ [])) (sym x.after)
+    (behaves a f.own c _ (record {
+      named = f.named;
+      named' = class_kept c.pool (c.pool ++ call_entries c.pool a) (extends_append c.pool (call_entries c.pool a)) c.this_class f.own f.named;
+      identifier = f.identifier;
+      apart = λ same. apart (f.named ∙ ap Some same);
+      aspect = b.0;
+      printable = b.1;
+      members = woven_methods a f.own (method_names c) c.pool f.short c.methods x.methods f.methods x.each;
+    }))
+
+-- ---- unadvised
+
+module _ (a : FirstAspect) (own : List ℕ) (methods : List (List ℕ)) (pool : List PoolEntry) where
+  written_as : (chain : List Advice) (i : Insn) → is_empty chain ≡ true → Written pool (advice_reference a) chain i (spelling i)
+  written_as [] i none = refl
+  written_as (b ∷ rest) i none = let apart : false ≡ true = none in absurd cc
+
+  unadvised_code : (code : CodeAttr) → IsUnadvisedCode pool a code.code → insns_pass (is_form_insn pool own methods) code.code (length code.code) 0 ≡ true → IsCarriedCode a own pool pool code code
+  unadvised_code code x passes = record {
+    stack = refl;
+    locals = refl;
+    insns = x.insns;
+    bytes = spelling;
+    carried = zipped (λ i. (IsInsn i × IsSingle i) × (IsTrue (is_unadvised pool a i))) (λ i. is_form_insn pool own methods i ≡ true) (IsCarried a own pool pool spelling)
+        (λ i valid form. record { insn = valid.0.0; single = valid.0.1; meaning = has_meaning pool pool own methods (extends_same pool) i form; written = written_as (chain_of (aspect_of a ∷ []) (operation pool i)) i valid.1 })
+        x.insns (zipped (λ i. IsInsn i × IsSingle i) (λ i. IsTrue (is_unadvised pool a i)) _ (λ i valid none. (valid, none)) x.insns x.single x.none)
+        (all_pass (is_form_insn pool own methods) code.code (length code.code) 0 x.insns x.single x.spelled passes);
+    before = x.spelled;
+    after = x.spelled;
+  }
+
+  unadvised_method : (m : Member) → is_form_method pool own methods m ≡ true → IsUnadvisedMethod pool a m → IsCarriedMember a own pool pool m m
+  unadvised_method m form x =
+      let type = type_of own methods pool m form in
+      record {
+        flags = refl;
+        type = type.0;
+        typed = type.1;
+        typed' = type.1;
+        name = x.name;
+        name' = x.name;
+        code = x.code;
+        code' = x.code;
+        attributes = x.attributes;
+        attributes' = x.attributes;
+        coded = named_code own methods pool m form x.name x.code x.attributes;
+        coded' = named_code own methods pool m form x.name x.code x.attributes;
+        carried = unadvised_code x.code x.unadvised (insns_of own methods pool m form x.name x.code x.attributes);
+      }
+
+  unadvised_methods : (ms : List Member) → list_all (is_form_method pool own methods) ms ≡ true → AllByRecursion (IsUnadvisedMethod pool a) ms → AllZip (IsCarriedMember a own pool pool) ms ms
+  unadvised_methods [] form all = tt
+  unadvised_methods (m ∷ ms) form all =
+      let p = and_parts (is_form_method pool own methods m) (list_all (is_form_method pool own methods) ms) form in
+      (unadvised_method m p.0 all.0, unadvised_methods ms p.1 all.1)
+
+pub unadvised_behaves : (c : ClassFile) (a : FirstAspect) → IsTrue (is_first_form c) → IsTrue (is_first_aspect a) → this_name c ≢ Some a.name → IsUnadvised a c → Behaves (c ∷ []) (aspect_of a ∷ []) (c ∷ aspect_class a ∷ [])
+unadvised_behaves c a form aspect apart x =
+    let f = has_form c form in
+    let b = aspect_form a aspect in
+    behaves a f.own c c (record {
+      named = f.named;
+      named' = f.named;
+      identifier = f.identifier;
+      apart = λ same. apart (f.named ∙ ap Some same);
+      aspect = b.0;
+      printable = b.1;
+      members = unadvised_methods a f.own (method_names c) c.pool c.methods f.methods x;
+    })
