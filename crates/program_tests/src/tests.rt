@@ -53,55 +53,73 @@ fn run(
     })
 }
 
+/// Whether the shelf has exactly these bytes under the name.
+fn holds(left: &Outcome, name: &str, bytes: &[u8]) -> bool {
+    match left.shelf.file(name) {
+        None => false,
+        Some(found) => found == bytes,
+    }
+}
+
 #[test]
 fn first_advice(rt: HostRuntime) -> Result<(), Fail> {
-    let named: [(&str, &[u8]); 3] = [
-        ("in/C.class", &C),
-        ("in/T.aj", ASPECT),
-        ("in/notes.txt", b"x"),
-    ];
-    let left = run(rt.alloc(), &["weave", "in", "out"], &named, &[], &[])?;
+    let left = run(
+        rt.alloc(),
+        &["weave", "in", "out"],
+        &[
+            ("in/C.class", &C),
+            ("in/T.aj", ASPECT),
+            ("in/notes.txt", b"x"),
+        ],
+        &[],
+        &[],
+    )?;
     assert_eq!(rt; left.status, 0);
     assert_eq!(rt; left.printed.bytes(), b"".as_slice());
     assert_eq!(rt; left.shelf.len(), 5);
-    for (name, bytes) in named {
-        assert_eq!(rt; left.shelf.file(name), Some(bytes));
-    }
-    assert_eq!(rt; left.shelf.file("out/C.class"), Some(C_WOVEN.as_slice()));
-    assert_eq!(rt; left.shelf.file("out/T.class"), Some(T.as_slice()));
+    assert!(rt; holds(&left, "in/C.class", &C));
+    assert!(rt; holds(&left, "in/T.aj", ASPECT));
+    assert!(rt; holds(&left, "in/notes.txt", b"x"));
+    assert!(rt; holds(&left, "out/C.class", &C_WOVEN));
+    assert!(rt; holds(&left, "out/T.class", &T));
     Ok(())
+}
+
+/// Whether the class under the aspect is written so, under this name, beside the aspect's class.
+fn weaves(
+    alloc: Global,
+    class: &[u8],
+    aspect: &[u8],
+    name: &str,
+    woven: &[u8],
+) -> Result<bool, AllocError> {
+    let left = run(
+        alloc,
+        &["weave", "in", "o/p"],
+        &[("in/a/X.class", class), ("in/T.aj", aspect)],
+        &[],
+        &[],
+    )?;
+    Ok(left.status == 0 && left.shelf.len() == 4 && holds(&left, name, woven))
 }
 
 #[test]
 fn calls_and_untouched_classes(rt: HostRuntime) -> Result<(), Fail> {
-    let cases: [(&[u8], &[u8], &[u8]); 3] = [
-        (&SEVERAL, ASPECT, &SEVERAL_WOVEN),
-        (&C, OTHER, &C),
-        (&D, ASPECT, &D),
-    ];
-    for (class, aspect, woven) in cases {
-        let named = [("in/a/X.class", class), ("in/T.aj", aspect)];
-        let left = run(rt.alloc(), &["weave", "in", "o/p"], &named, &[], &[])?;
-        assert_eq!(rt; left.status, 0);
-        assert_eq!(rt; left.shelf.len(), 4);
-        let name = if class.len() == D.len() {
-            "o/p/D.class"
-        } else {
-            "o/p/C.class"
-        };
-        assert_eq!(rt; left.shelf.file(name), Some(woven));
-    }
+    let alloc = rt.alloc();
+    assert!(rt; weaves(alloc, &SEVERAL, ASPECT, "o/p/C.class", &SEVERAL_WOVEN)?);
+    assert!(rt; weaves(alloc, &C, OTHER, "o/p/C.class", &C)?);
+    assert!(rt; weaves(alloc, &D, ASPECT, "o/p/D.class", &D)?);
     let left = run(
-        rt.alloc(),
+        alloc,
         &["weave", "in", "out"],
         &[("in/D.class", &D)],
         &[],
         &[],
     )?;
     assert_eq!(rt; left.status, 0);
-    assert_eq!(rt; left.shelf.file("out/D.class"), Some(D.as_slice()));
+    assert!(rt; holds(&left, "out/D.class", &D));
     assert_eq!(rt; left.shelf.len(), 2);
-    let left = run(rt.alloc(), &["weave", "in", "out"], &[], &[], &[])?;
+    let left = run(alloc, &["weave", "in", "out"], &[], &[], &[])?;
     assert_eq!(rt; left.status, 0);
     assert_eq!(rt; left.shelf.len(), 0);
     Ok(())
