@@ -5,3 +5,5 @@
 mod classes;
 #[cfg(test)]
 mod tests;
+#[cfg(test)]
+mod units;
