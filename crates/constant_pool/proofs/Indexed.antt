@@ -1,7 +1,7 @@
 -- The map of a pool's entries, as entries come and go at its end.
 use Rattle.std.specs.Prelude.{◌≡◌, ℕ, suc, ◌+◌, ◌<◌, ◌≤◌, Bool, true, false, cond, List, [], ◌∷◌, ◌++◌, length, Option, Some, None, refl, is_some, nat_eq}
 use Rattle.std.proofs.Common.{sym, ◌∙◌, ap, subst, inl, inr, arith, length-append}
-use Rattle.std.specs.HashMap.{HashMap, get}
+use Rattle.indexmap.specs.IndexMap.{IndexMap, get}
 use Rattle.std.specs.Option.{option_eq}
 use Rattle.std.proofs.lemmas.Bool.{eqb-true, eqb-false}
 use Rattle.class_format.specs.declared.pool.PoolEntry.{PoolEntry}
@@ -9,7 +9,7 @@ use Rattle.constant_pool.specs.Edit.{same_entry, least_index}
 use Rattle.constant_pool.specs.Places.{IsIndexed}
 use Rattle.constant_pool.specs.Laws.{same_entry-itself, same_entry-cases, or_at, or_at-false, least_index-push, least_index-within}
 
-pub empty_indexed : {S : Type 0} (places : HashMap PoolEntry ℕ S) → places.entries ≡ [] → IsIndexed [] places
+pub empty_indexed : {S : Type 0} (places : IndexMap PoolEntry ℕ S) → places.entries ≡ [] → IsIndexed [] places
 empty_indexed places e = record { fits = omega arith; least = λ q. rw e refl }
 
 length_push : (pool : List PoolEntry) (x : PoolEntry) → length (pool ++ x ∷ []) ≡ suc (length pool)
@@ -25,7 +25,7 @@ none_at (Some i) n h = cc
 none_at None n h = refl
 
 -- an entry that is there already comes again
-pub pushed_again : {S : Type 0} (pool : List PoolEntry) (places : HashMap PoolEntry ℕ S) (x : PoolEntry) → IsIndexed pool places → length pool < 65534 → is_some (get same_entry places x) ≡ true → IsIndexed (pool ++ x ∷ []) places
+pub pushed_again : {S : Type 0} (pool : List PoolEntry) (places : IndexMap PoolEntry ℕ S) (x : PoolEntry) → IsIndexed pool places → length pool < 65534 → is_some (get same_entry places x) ≡ true → IsIndexed (pool ++ x ∷ []) places
 pushed_again pool places x h room there = record {
   fits = omega (arith, length_push pool x);
   least = λ q. elim (same_entry-cases x q) [
@@ -36,7 +36,7 @@ pushed_again pool places x h room there = record {
 }
 
 -- a new entry comes
-pub pushed_new : {S : Type 0} (pool : List PoolEntry) (places new : HashMap PoolEntry ℕ S) (x : PoolEntry) (at : ℕ) → IsIndexed pool places → length pool < 65534 → is_some (get same_entry places x) ≡ false → at ≡ length pool + 1
+pub pushed_new : {S : Type 0} (pool : List PoolEntry) (places new : IndexMap PoolEntry ℕ S) (x : PoolEntry) (at : ℕ) → IsIndexed pool places → length pool < 65534 → is_some (get same_entry places x) ≡ false → at ≡ length pool + 1
     → ((q : PoolEntry) → get same_entry new q ≡ cond (same_entry x q) (Some at) (get same_entry places q)) → IsIndexed (pool ++ x ∷ []) new
 pushed_new pool places new x at h room absent is_at updates =
     let next : at ≡ suc (length pool) = omega arith in
@@ -62,7 +62,7 @@ not_earlier (Some i) m n within e h = let w = within i refl in let same : i ≡ 
 not_earlier None m n within e h = refl
 
 -- the last entry goes, and an equal one stands before it
-pub popped_again : {S : Type 0} (pool : List PoolEntry) (places : HashMap PoolEntry ℕ S) (x : PoolEntry) (at : ℕ) → IsIndexed (pool ++ x ∷ []) places → at ≡ length pool + 1 → (get same_entry places x ≡ Some at → ⊥) → IsIndexed pool places
+pub popped_again : {S : Type 0} (pool : List PoolEntry) (places : IndexMap PoolEntry ℕ S) (x : PoolEntry) (at : ℕ) → IsIndexed (pool ++ x ∷ []) places → at ≡ length pool + 1 → (get same_entry places x ≡ Some at → ⊥) → IsIndexed pool places
 popped_again pool places x at h is_at apart_at =
     let next : at ≡ suc (length pool) = omega arith in
     record {
@@ -76,7 +76,7 @@ popped_again pool places x at h is_at apart_at =
     }
 
 -- the last entry goes, and no other is equal to it
-pub popped_last : {S : Type 0} (pool : List PoolEntry) (places new : HashMap PoolEntry ℕ S) (x : PoolEntry) (at : ℕ) → IsIndexed (pool ++ x ∷ []) places → at ≡ length pool + 1 → get same_entry places x ≡ Some at
+pub popped_last : {S : Type 0} (pool : List PoolEntry) (places new : IndexMap PoolEntry ℕ S) (x : PoolEntry) (at : ℕ) → IsIndexed (pool ++ x ∷ []) places → at ≡ length pool + 1 → get same_entry places x ≡ Some at
     → ((q : PoolEntry) → get same_entry new q ≡ cond (same_entry x q) None (get same_entry places q)) → IsIndexed pool new
 popped_last pool places new x at h is_at last updates =
     let next : at ≡ suc (length pool) = omega arith in

@@ -9,8 +9,8 @@ ghost use Rattle.class_format.specs.Sound.{is_wide};
 use crate::PoolFault;
 use aj_names::{ByteString, Items};
 use class_format::PoolEntry;
+use indexmap::IndexMap;
 use std::alloc::{AllocError, Global};
-use std::collections::HashMap;
 use std::marker::Model;
 
 /// A constant pool to which entries are added (JVMS 4.4). It is seen as the list of its entries, whose
@@ -20,7 +20,7 @@ use std::marker::Model;
 #[derive(Drop)]
 pub struct PoolEdit {
     entries: Vec<PoolEntry>,
-    places: HashMap<PoolEntry, u16>,
+    places: IndexMap<PoolEntry, u16>,
 }
 
 impl Model for PoolEdit {
@@ -65,7 +65,7 @@ impl PoolEdit {
     {
         PoolEdit {
             entries: Vec::new(alloc),
-            places: HashMap::new(alloc),
+            places: IndexMap::new(alloc),
         }
     }
 
@@ -124,7 +124,7 @@ impl PoolEdit {
         if let Some(last) = self.entries.pop() {
             let index = self.entries.len() as u16 + 1;
             if self.places.get(&last).copied() == Some(index) {
-                let _ = self.places.remove(&last);
+                let _ = self.places.swap_remove(&last);
             }
         }
     }

@@ -1,5 +1,5 @@
 use Rattle.std.proofs.Common.{◌≡◌, ◌+◌, ◌<◌, Some, cond, List, length, sym, subst, arith}
-use Rattle.std.specs.HashMap.{get}
+use Rattle.indexmap.specs.IndexMap.{get}
 use Rattle.class_format.specs.declared.pool.PoolEntry.{PoolEntry}
 use Rattle.constant_pool.specs.Edit.{same_entry}
 use Rattle.constant_pool.proofs.Indexed.{pushed_again, pushed_new}
