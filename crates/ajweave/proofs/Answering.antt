@@ -4,7 +4,7 @@ use Rattle.std.specs.Prelude.{IfSome}
 use Rattle.std.specs.Option.{option_map}
 use Rattle.std.proofs.lemmas.List.{append-nil}
 use Rattle.aj_outside.specs.Files.{Files}
-use Rattle.class_format.specs.declared.class_file.ClassFile.{ClassFile}
+use Rattle.class_file.specs.declared.types.ClassFile.{ClassFile}
 use Rattle.jp_model.specs.declared.first_aspect.FirstAspect.{FirstAspect}
 use Rattle.ajweave.specs.declared.status.Refusal.TheVariants.{NotBuilt}
 use Rattle.ajweave.specs.declared.status.Status.{Status}

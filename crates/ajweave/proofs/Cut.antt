@@ -11,9 +11,9 @@ use Rattle.std.proofs.lemmas.Cmp.{tied_itself}
 use Rattle.std.proofs.lemmas.List.{take_all, length-take}
 use Rattle.std.proofs.lemmas.Option.{none-some, same_Some, slice_get-map}
 use Rattle.aj_outside.specs.Files.{byte_order, Files, AreFiles, names, file_at, is_under, names_under}
-use Rattle.class_format.specs.declared.class_file.ClassFile.{ClassFile}
-use Rattle.class_format.specs.Spelling.{spelling}
-use Rattle.class_format.specs.FirstForm.{is_first_form}
+use Rattle.class_file.specs.declared.types.ClassFile.{ClassFile}
+use Rattle.class_file.specs.Spelling.{spelling}
+use Rattle.class_file.specs.FirstForm.{is_first_form}
 use Rattle.jp_model.specs.declared.first_aspect.FirstAspect.{FirstAspect}
 use Rattle.jp_model.specs.AspectText.{SpellsAspect}
 use Rattle.jp_model.specs.Input.{is_class_file, is_other_file, is_input, inputs_in, SpellsClass, Reads, HasClassNamed, HasEarlier, IsBuiltClass, IsBuiltAspect, IsBuiltAt, AllBuilt, IsNotBuilt}

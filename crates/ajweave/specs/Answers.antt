@@ -3,7 +3,7 @@ use Rattle.std.specs.Prelude.{◌≡◌, ℕ, ◌≤◌, ◌⊎◌, List, [], �
 use Rattle.std.specs.Option.{option_map}
 use Rattle.aj_outside.specs.Counts.{Rose}
 use Rattle.aj_outside.specs.Files.{Files, names_under, put_each, OthersStay, AppendsPrefix}
-use Rattle.class_format.specs.declared.class_file.ClassFile.{ClassFile}
+use Rattle.class_file.specs.declared.types.ClassFile.{ClassFile}
 use Rattle.jp_model.specs.declared.first_aspect.FirstAspect.{FirstAspect}
 use Rattle.jp_model.specs.AspectText.{aspect_of}
 use Rattle.jp_model.specs.Input.{inputs_in, Reads, AllBuilt, IsNotBuilt}

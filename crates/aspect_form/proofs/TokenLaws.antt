@@ -7,7 +7,7 @@ use Rattle.std.proofs.lemmas.Bool.{and_parts, and_from, or_left, not-true, not_f
 use Rattle.std.proofs.lemmas.Bool.Decides.{nat_tests}
 use Rattle.std.proofs.lemmas.Option.{same_Some, none-some}
 use Rattle.std.proofs.lemmas.Slice.Eq.{bytes_eq-Decides}
-use Rattle.class_format.specs.FirstForm.{is_letter, is_letter_or_digit, begins_with_letter, is_printable}
+use Rattle.class_file.specs.FirstForm.{is_letter, is_letter_or_digit, begins_with_letter, is_printable}
 use Rattle.jp_model.specs.AspectText.{Token, IsText, token_text, may_follow, begins_outside, is_word_character, is_space, is_unescaped, is_short_identifier, is_literal, quoted}
 use Rattle.jp_model.specs.AspectText.Token.{Word, Sign}
 use Rattle.aspect_form.specs.Reading.{◌>>=◌, run_of, behind_run, stripped, token_at, tokens_at, identifier_at, quoted_at, is_quotable, is_name, is_taken}

@@ -2,7 +2,7 @@
 use Rattle.std.specs.Prelude.{ℕ, ◌==◌, ◌&&◌, not, nat_le, Bool, if◌then◌else◌, List, [], ◌∷◌, length, codes, Option, Some, None}
 use Rattle.std.specs.List.{list_all}
 use Rattle.std.specs.Str.{bytes_eq}
-use Rattle.class_format.specs.FirstForm.{is_printable, is_reserved, is_letter_or_digit, begins_with_letter}
+use Rattle.class_file.specs.FirstForm.{is_printable, is_reserved, is_letter_or_digit, begins_with_letter}
 use Rattle.jp_model.specs.declared.first_aspect.FirstAspect.{FirstAspect}
 use Rattle.jp_model.specs.AspectText.{Token, is_word_character, is_space, is_unescaped, word, sign}
 use Rattle.jp_model.specs.AspectText.Token.{Word, Sign}

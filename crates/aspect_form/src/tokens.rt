@@ -2,7 +2,7 @@
 //! at its front, and answers what it read and the rest behind it.
 
 ghost use Rattle.std.specs.Prelude.{◌≡◌, ◌∷◌, [], option_map, option_copied};
-ghost use Rattle.class_format.specs.FirstForm as form;
+ghost use Rattle.class_file.specs.FirstForm as form;
 ghost use Rattle.jp_model.specs.AspectText as grammar;
 ghost use Rattle.jp_model.specs.AspectText.Token.{Word, Sign};
 ghost use Rattle.aspect_form.specs.Reading.{run_of, behind_run, token_at, identifier_at, quoted_at, is_quotable, is_taken, is_name};

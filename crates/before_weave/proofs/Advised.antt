@@ -7,9 +7,9 @@ use Rattle.std.proofs.lemmas.Bool.{eqb-true, and_parts, and_right}
 use Rattle.std.proofs.lemmas.Slice.Eq.{bytes_eq-Decides}
 use Rattle.opcode_table.specs.declared.insn.Insn.{Insn}
 use Rattle.opcode_table.specs.declared.insn.Insn.TheVariants as insn
-use Rattle.class_format.specs.declared.pool.PoolEntry.{PoolEntry}
-use Rattle.class_format.specs.Pool.{Reference, as_method, method_at, string_at, field_at}
-use Rattle.class_format.specs.Sound.{is_some_that}
+use Rattle.class_file.specs.declared.pool.PoolEntry.{PoolEntry}
+use Rattle.class_file.specs.Pool.{Reference, as_method, method_at, string_at, field_at}
+use Rattle.class_file.specs.Sound.{is_some_that}
 use Rattle.jp_model.specs.declared.first_aspect.FirstAspect.{FirstAspect}
 use Rattle.jp_model.specs.Values.{Literal, Reference as Pointer}
 use Rattle.jp_model.specs.Effect.{Operation, Constant, GetStatic, InvokeStatic, InvokeVirtual, DoNothing, Return}

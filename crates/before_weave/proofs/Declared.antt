@@ -5,14 +5,14 @@ use Rattle.std.specs.Str.{bytes_eq}
 use Rattle.std.specs.List.{list_all, filter, starts_with, AllZip}
 use Rattle.std.proofs.lemmas.Bool.{and_parts, and_from, cond-true, false_from_ne_true, true≢false}
 use Rattle.std.proofs.lemmas.Slice.Eq.{bytes_eq-Decides}
-use Rattle.class_format.specs.declared.pool.PoolEntry.{PoolEntry}
-use Rattle.class_format.specs.declared.pool.PoolEntry.TheVariants as entry
-use Rattle.class_format.specs.declared.class_file.ClassFile.{ClassFile}
-use Rattle.class_format.specs.declared.class_file.Member.{Member}
-use Rattle.class_format.specs.declared.class_file.Attribute.{Attribute}
-use Rattle.class_format.specs.Pool.{entry_at, as_text, text_at, as_class, class_at, this_name, super_name}
-use Rattle.class_format.specs.Sound.{is_some_that}
-use Rattle.class_format.specs.FirstForm.{is_first_form, is_form_method, is_identifier, begins_with_letter, is_letter_or_digit, is_reserved, method_names, own_name, object_class}
+use Rattle.class_file.specs.declared.pool.PoolEntry.{PoolEntry}
+use Rattle.class_file.specs.declared.pool.PoolEntry.TheVariants as entry
+use Rattle.class_file.specs.declared.types.ClassFile.{ClassFile}
+use Rattle.class_file.specs.declared.types.Member.{Member}
+use Rattle.class_file.specs.declared.types.Attribute.{Attribute}
+use Rattle.class_file.specs.Pool.{entry_at, as_text, text_at, as_class, class_at, this_name, super_name}
+use Rattle.class_file.specs.Sound.{is_some_that}
+use Rattle.class_file.specs.FirstForm.{is_first_form, is_form_method, is_identifier, begins_with_letter, is_letter_or_digit, is_reserved, method_names, own_name, object_class}
 use Rattle.jp_model.specs.declared.first_aspect.FirstAspect.{FirstAspect}
 use Rattle.jp_model.specs.Headline.{is_code, declared_member, declared_members, has_within, is_generated, KeepsDeclared}
 use Rattle.woven_calls.specs.Woven.{IsWovenMethod, call_entries, call_index}

@@ -6,16 +6,16 @@ use Rattle.std.proofs.lemmas.Bool.{eqb-true, ltb-true, leb-true, and_parts, and_
 use Rattle.opcode_table.specs.declared.insn.Insn.{Insn}
 use Rattle.opcode_table.specs.declared.insn.Insn.TheVariants as insn
 use Rattle.opcode_table.specs.Decoding.{Decoded, decoded}
-use Rattle.class_format.specs.declared.pool.PoolEntry.{PoolEntry}
-use Rattle.class_format.specs.declared.class_file.ClassFile.{ClassFile}
-use Rattle.class_format.specs.declared.class_file.Member.{Member}
-use Rattle.class_format.specs.declared.class_file.Attribute.{Attribute}
-use Rattle.class_format.specs.declared.class_file.Content.{Content}
-use Rattle.class_format.specs.declared.class_file.Content.TheVariants as content
-use Rattle.class_format.specs.Pool.{this_name, text_at}
-use Rattle.class_format.specs.Range.{is_writable}
-use Rattle.class_format.specs.Sound.{is_some_that, pool_is_sound}
-use Rattle.class_format.specs.FirstForm.{is_first_form, has_known_version, has_short_lists, has_form_names, has_form_methods, has_kept_attributes, has_form_flags, is_form_method, is_form_attribute, is_form_content, is_form_insn, is_identifier, is_text, is_single, is_plain_code, no_arguments, insns_pass, step_passes, method_names, own_name, are_distinct}
+use Rattle.class_file.specs.declared.pool.PoolEntry.{PoolEntry}
+use Rattle.class_file.specs.declared.types.ClassFile.{ClassFile}
+use Rattle.class_file.specs.declared.types.Member.{Member}
+use Rattle.class_file.specs.declared.types.Attribute.{Attribute}
+use Rattle.class_file.specs.declared.types.Content.{Content}
+use Rattle.class_file.specs.declared.types.Content.TheVariants as content
+use Rattle.class_file.specs.Pool.{this_name, text_at}
+use Rattle.class_file.specs.Range.{is_writable}
+use Rattle.class_file.specs.Sound.{is_some_that, pool_is_sound}
+use Rattle.class_file.specs.FirstForm.{is_first_form, has_known_version, has_short_lists, has_form_names, has_form_methods, has_kept_attributes, has_form_flags, is_form_method, is_form_attribute, is_form_content, is_form_insn, is_identifier, is_text, is_single, is_plain_code, no_arguments, insns_pass, step_passes, method_names, own_name, are_distinct}
 use Rattle.before_weave.specs.Walk.{has_no_table, is_straight, is_straight_content, is_straight_method}
 
 pub all_weaker : {X : Type 0} (p q : X → Bool) (xs : List X) → ((x : X) → p x ≡ true → q x ≡ true) → list_all p xs ≡ true → list_all q xs ≡ true

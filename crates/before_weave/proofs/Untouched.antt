@@ -10,14 +10,14 @@ use Rattle.opcode_table.specs.declared.insn.Insn.{Insn}
 use Rattle.opcode_table.specs.Decoding.{decoded}
 use Rattle.opcode_table.specs.Spelling.{spelling, IsInsn, IsSingle}
 use Rattle.opcode_table.specs.DecodedAgain.{decoded_after}
-use Rattle.class_format.specs.declared.pool.PoolEntry.{PoolEntry}
-use Rattle.class_format.specs.declared.class_file.ClassFile.{ClassFile}
-use Rattle.class_format.specs.declared.class_file.Member.{Member}
-use Rattle.class_format.specs.declared.class_file.Content.TheVariants as content
-use Rattle.class_format.specs.declared.class_file.CodeAttr.{CodeAttr}
-use Rattle.class_format.specs.Pool.{this_name}
-use Rattle.class_format.specs.Sound.{is_some_that}
-use Rattle.class_format.specs.FirstForm.{is_first_form, has_form_flags, is_form_method, is_form_attribute, is_form_content, is_single, is_text, method_names, own_name}
+use Rattle.class_file.specs.declared.pool.PoolEntry.{PoolEntry}
+use Rattle.class_file.specs.declared.types.ClassFile.{ClassFile}
+use Rattle.class_file.specs.declared.types.Member.{Member}
+use Rattle.class_file.specs.declared.types.Content.TheVariants as content
+use Rattle.class_file.specs.declared.types.CodeAttr.{CodeAttr}
+use Rattle.class_file.specs.Pool.{this_name}
+use Rattle.class_file.specs.Sound.{is_some_that}
+use Rattle.class_file.specs.FirstForm.{is_first_form, has_form_flags, is_form_method, is_form_attribute, is_form_content, is_single, is_text, method_names, own_name}
 use Rattle.jp_model.specs.declared.first_aspect.FirstAspect.{FirstAspect}
 use Rattle.jp_model.specs.AspectText.{aspect_of}
 use Rattle.jp_model.specs.JoinPoints.{chain_of}

@@ -15,8 +15,8 @@ use Rattle.std.specs.Int.{w16, to_be_bytes}
 use Rattle.opcode_table.specs.Table.{opcode}
 use Rattle.opcode_table.specs.Decoding.{Decoded, decoded}
 use Rattle.opcode_table.specs.Spelling.{spelling, IsInsn, IsSingle, Stands}
-use Rattle.class_format.specs.declared.class_file.Member.{Member}
-use Rattle.class_format.specs.FirstForm.{insns_pass, step_passes}
+use Rattle.class_file.specs.declared.types.Member.{Member}
+use Rattle.class_file.specs.FirstForm.{insns_pass, step_passes}
 use Rattle.woven_calls.specs.Woven.{unless}
 use Rattle.before_weave.specs.Marks.{is_advised}
 use Rattle.before_weave.specs.Walk.{has_no_table, marked_insn, IsMarkedCode, IsMarkedMethod, HasCalls, HaveCalls, AreMarkedMethods}

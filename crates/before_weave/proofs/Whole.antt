@@ -1,10 +1,10 @@
 -- What weaving gives, in the words of the headline.
 use Rattle.std.proofs.Common.{◌≡◌, true, [], ◌∷◌, sym, ap, subst, ◌∙◌}
-use Rattle.class_format.specs.declared.class_file.ClassFile.{ClassFile}
-use Rattle.class_format.specs.Pool.{this_name}
-use Rattle.class_format.specs.Spelling.{spelling}
-use Rattle.class_format.specs.Range.{is_writable}
-use Rattle.class_format.specs.FirstForm.{is_first_form}
+use Rattle.class_file.specs.declared.types.ClassFile.{ClassFile}
+use Rattle.class_file.specs.Pool.{this_name}
+use Rattle.class_file.specs.Spelling.{spelling}
+use Rattle.class_file.specs.Range.{is_writable}
+use Rattle.class_file.specs.FirstForm.{is_first_form}
 use Rattle.jp_model.specs.declared.first_aspect.FirstAspect.{FirstAspect}
 use Rattle.jp_model.specs.AspectText.{is_first_aspect, aspect_of}
 use Rattle.jp_model.specs.Headline.{Behaves, KeepsUntouched, KeepsDeclared, IsWritten}
@@ -15,7 +15,7 @@ use Rattle.before_weave.proofs.Untouched.{touched}
 use Rattle.before_weave.proofs.Declared.{same_name, keeps_woven, keeps_same}
 use Rattle.before_weave.proofs.Writable.{woven_writable, aspect_writable}
 use Rattle.before_weave.proofs.Sound.{woven_sound, aspect_sound}
-use Rattle.class_format.specs.Sound.{pool_is_sound}
+use Rattle.class_file.specs.Sound.{pool_is_sound}
 
 module _ (a : FirstAspect) (c w : ClassFile) (form : is_first_form c ≡ true) (first : is_first_aspect a ≡ true) where
   abbrev Runs : ClassFile → Type 0

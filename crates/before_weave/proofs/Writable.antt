@@ -11,17 +11,17 @@ use Rattle.opcode_table.specs.declared.insn.Insn.{Insn}
 use Rattle.opcode_table.specs.declared.insn.Insn.TheVariants as insn
 use Rattle.opcode_table.specs.Table.{opcode}
 use Rattle.opcode_table.specs.Spelling.{spelling, IsInsn, IsSingle}
-use Rattle.class_format.specs.declared.pool.PoolEntry.{PoolEntry}
-use Rattle.class_format.specs.declared.pool.PoolEntry.TheVariants as entry
-use Rattle.class_format.specs.declared.class_file.ClassFile.{ClassFile}
-use Rattle.class_format.specs.declared.class_file.Member.{Member}
-use Rattle.class_format.specs.declared.class_file.Content.TheVariants as content
-use Rattle.class_format.specs.declared.class_file.CodeAttr.{CodeAttr}
-use Rattle.class_format.specs.Pool.{this_name}
-use Rattle.class_format.specs.Text.{within}
-use Rattle.class_format.specs.Range.{is_u1, is_u2, is_u4, are_bytes, counted_fits, entry_fits, pool_fits, exception_fits, code_attribute_fits, code_fits, attribute_fits, member_fits, is_writable}
-use Rattle.class_format.specs.Spelling.{spelled_content}
-use Rattle.class_format.specs.FirstForm.{is_first_form, is_letter, is_digit, is_letter_or_digit, is_printable, is_printable_text, is_reserved, is_identifier, begins_with_letter, is_plain_code, is_form_insn, is_form_method, is_form_attribute, insns_pass, is_single, is_text, method_names, own_name}
+use Rattle.class_file.specs.declared.pool.PoolEntry.{PoolEntry}
+use Rattle.class_file.specs.declared.pool.PoolEntry.TheVariants as entry
+use Rattle.class_file.specs.declared.types.ClassFile.{ClassFile}
+use Rattle.class_file.specs.declared.types.Member.{Member}
+use Rattle.class_file.specs.declared.types.Content.TheVariants as content
+use Rattle.class_file.specs.declared.types.CodeAttr.{CodeAttr}
+use Rattle.class_file.specs.Pool.{this_name}
+use Rattle.class_file.specs.Text.{within}
+use Rattle.class_file.specs.Range.{is_u1, is_u2, is_u4, are_bytes, counted_fits, entry_fits, pool_fits, exception_fits, code_attribute_fits, code_fits, attribute_fits, member_fits, is_writable}
+use Rattle.class_file.specs.Spelling.{spelled_content}
+use Rattle.class_file.specs.FirstForm.{is_first_form, is_letter, is_digit, is_letter_or_digit, is_printable, is_printable_text, is_reserved, is_identifier, begins_with_letter, is_plain_code, is_form_insn, is_form_method, is_form_attribute, insns_pass, is_single, is_text, method_names, own_name}
 use Rattle.jp_model.specs.declared.first_aspect.FirstAspect.{FirstAspect}
 use Rattle.jp_model.specs.AspectText.{is_first_aspect, is_short_identifier, is_literal, is_unescaped, aspect_of}
 use Rattle.jp_model.specs.Headline.{IsAspectClass}

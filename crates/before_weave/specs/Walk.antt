@@ -4,12 +4,12 @@ use Rattle.std.specs.List.{list_any, flat_map, All, Any, AllZip, AllByRecursion}
 use Rattle.opcode_table.specs.declared.insn.Insn.{Insn}
 use Rattle.opcode_table.specs.declared.insn.Insn.TheVariants as insn
 use Rattle.opcode_table.specs.Spelling.{spelling, IsInsn, IsSingle}
-use Rattle.class_format.specs.declared.class_file.Member.{Member}
-use Rattle.class_format.specs.declared.class_file.Attribute.{Attribute}
-use Rattle.class_format.specs.declared.class_file.Content.{Content}
-use Rattle.class_format.specs.declared.class_file.Content.TheVariants as content
-use Rattle.class_format.specs.declared.class_file.CodeAttr.{CodeAttr}
-use Rattle.class_format.specs.FirstForm.{is_single, is_plain_code, insns_pass}
+use Rattle.class_file.specs.declared.types.Member.{Member}
+use Rattle.class_file.specs.declared.types.Attribute.{Attribute}
+use Rattle.class_file.specs.declared.types.Content.{Content}
+use Rattle.class_file.specs.declared.types.Content.TheVariants as content
+use Rattle.class_file.specs.declared.types.CodeAttr.{CodeAttr}
+use Rattle.class_file.specs.FirstForm.{is_single, is_plain_code, insns_pass}
 use Rattle.woven_calls.specs.Woven.{unless, with_code}
 use Rattle.before_weave.specs.Marks.{is_advised}
 

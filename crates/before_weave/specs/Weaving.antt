@@ -1,8 +1,8 @@
 -- What weaving an aspect into a class makes of the class.
 use Rattle.std.specs.Prelude.{◌≡◌, ◌++◌, true, List}
 use Rattle.std.specs.List.{Any}
-use Rattle.class_format.specs.declared.class_file.ClassFile.{ClassFile}
-use Rattle.class_format.specs.declared.class_file.Member.{Member}
+use Rattle.class_file.specs.declared.types.ClassFile.{ClassFile}
+use Rattle.class_file.specs.declared.types.Member.{Member}
 use Rattle.jp_model.specs.declared.first_aspect.FirstAspect.{FirstAspect}
 use Rattle.woven_calls.specs.Woven.{IsWovenClass, IsUnadvised, call_entries}
 use Rattle.before_weave.specs.Marks.{marks_of}

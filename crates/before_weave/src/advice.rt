@@ -1,13 +1,13 @@
 //! The class that stands for an aspect.
 
 ghost use Rattle.std.specs.Prelude.{◌≡◌, IfOk, IsTrue, Some};
-ghost use Rattle.class_format.specs.Pool.{this_name};
+ghost use Rattle.class_file.specs.Pool.{this_name};
 ghost use Rattle.jp_model.specs.AspectText.{is_first_aspect, aspect_of};
 ghost use Rattle.jp_model.specs.Headline.{IsAspectClass, IsWritten};
 ghost use Rattle.woven_calls.specs.Woven.{aspect_class, aspect_pool, advice_method, advice_code};
 
 use crate::entries::{ADVICE_NAME, code_attribute, utf8};
-use class_format::{AccessFlags, ClassFile, Member, PoolEntry};
+use class_file::{AccessFlags, ClassFile, Member, PoolEntry};
 use jp_model::FirstAspect;
 use sqlite_items::Items;
 use std::alloc::{AllocError, Global};

@@ -4,7 +4,7 @@ ghost use Rattle.std.specs.Prelude.{◌≡◌, ◌<◌, ◌++◌, IfOk, [], ◌�
 ghost use Rattle.woven_calls.specs.Woven.{with_code, call_entries};
 
 use aj_names::ByteString;
-use class_format::{Attribute, CodeAttr, Content, PoolEntry};
+use class_file::{Attribute, CodeAttr, Content, PoolEntry};
 use jp_model::FirstAspect;
 use sqlite_items::Items;
 use std::alloc::{AllocError, Global};

@@ -6,7 +6,7 @@ ghost use Rattle.before_weave.specs.Walk.{is_straight_method, IsMarkedMethod, Ha
 
 use crate::code::weave_code;
 use crate::entries::code_attribute;
-use class_format::{Content, Member};
+use class_file::{Content, Member};
 use std::alloc::{AllocError, Global};
 
 /// A method with calls put in.

@@ -5,7 +5,7 @@ use crate::code::weave_code;
 use crate::entries::utf8;
 use crate::marks::marks_of;
 use aj_names::ByteString;
-use class_format::PoolEntry;
+use class_file::PoolEntry;
 use jp_model::FirstAspect;
 use std::alloc::{AllocError, Global};
 use std::test::*;

@@ -1,8 +1,8 @@
 //! Weaving a class.
 
 ghost use Rattle.std.specs.Prelude.{◌≡◌, ◌≢◌, ◌<◌, [], ◌∷◌, length, IfOk, IsTrue, Some};
-ghost use Rattle.class_format.specs.FirstForm.{is_first_form};
-ghost use Rattle.class_format.specs.Pool.{this_name};
+ghost use Rattle.class_file.specs.FirstForm.{is_first_form};
+ghost use Rattle.class_file.specs.Pool.{this_name};
 ghost use Rattle.jp_model.specs.AspectText.{is_first_aspect, aspect_of};
 ghost use Rattle.jp_model.specs.Headline.{Behaves, KeepsUntouched, KeepsDeclared, IsWritten};
 ghost use Rattle.woven_calls.specs.Woven.{aspect_class};
@@ -11,7 +11,7 @@ ghost use Rattle.before_weave.specs.Weaving.{with_calls, IsWeaving};
 use crate::entries::with_call_entries;
 use crate::marks::marks_of;
 use crate::methods::weave_methods;
-use class_format::{ClassFile, Member};
+use class_file::{ClassFile, Member};
 use jp_model::FirstAspect;
 use sqlite_items::Items;
 use std::alloc::{AllocError, Global};

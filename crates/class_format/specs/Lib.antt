@@ -1,10 +1,2 @@
-pub mod Spelling
-pub mod Pool
-pub mod Range
-pub mod Text
-pub mod Sound
-pub mod FirstForm
 pub mod Reading
-pub mod Lookup
 pub mod Writing
-pub mod FirstFormLaws

@@ -1,8 +1,8 @@
 -- The two halves of a class's spelling.
 use Rattle.std.specs.Prelude.{Bool, ◌&&◌, List, ℕ, ◌++◌}
-use Rattle.class_format.specs.declared.class_file.ClassFile.{ClassFile}
-use Rattle.class_format.specs.Spelling.{magic, u2, spelled_pool, counted, spelled_member, spelled_attribute}
-use Rattle.class_format.specs.Range.{counted_fits, is_u2, member_fits, attribute_fits}
+use Rattle.class_file.specs.declared.types.ClassFile.{ClassFile}
+use Rattle.class_file.specs.Spelling.{magic, u2, spelled_pool, counted, spelled_member, spelled_attribute}
+use Rattle.class_file.specs.Range.{counted_fits, is_u2, member_fits, attribute_fits}
 
 -- up to the superclass
 abbrev pub spelled_head : ClassFile → List ℕ

@@ -3,15 +3,15 @@
 ghost use Rattle.std.specs.Prelude.{◌≡◌, ◌+◌, ◌<◌, ◌^◌, ◌++◌, length, List, ℕ, IfOk, OnOk, IsTrue, ◌∷◌};
 ghost use Rattle.std.specs.List.{flat_map, list_all};
 ghost use Rattle.std.specs.Int.{w16, to_be_bytes};
-ghost use Rattle.class_format.specs.Spelling.{u2, u4, u8, counted, named, spelled_entry, spelled_pool, spelled_exception, spelled_inner, spelled_line, spelled_variable, spelled_code_content, spelled_code_attribute, spelled_code, spelled_content, spelled_attribute, spelled_member, spelling};
+ghost use Rattle.class_file.specs.Spelling.{u2, u4, u8, counted, named, spelled_entry, spelled_pool, spelled_exception, spelled_inner, spelled_line, spelled_variable, spelled_code_content, spelled_code_attribute, spelled_code, spelled_content, spelled_attribute, spelled_member, spelling};
 ghost use Rattle.class_format.specs.Writing.{spelled_head, spelled_body, body_fits};
-ghost use Rattle.class_format.specs.Range.{is_writable, entry_fits, pool_fits, counted_fits, line_fits, variable_fits, exception_fits, inner_fits, is_u2, is_u4, code_content_fits, code_attribute_fits, code_fits, content_fits, attribute_fits, member_fits};
+ghost use Rattle.class_file.specs.Range.{is_writable, entry_fits, pool_fits, counted_fits, line_fits, variable_fits, exception_fits, inner_fits, is_u2, is_u4, code_content_fits, code_attribute_fits, code_fits, content_fits, attribute_fits, member_fits};
 
-use crate::class_file::{
+use class_file::{
     Attribute, ClassFile, CodeAttr, CodeAttribute, CodeContent, Content, ExceptionEntry,
     InnerClass, LineRow, Member, VariableRow,
 };
-use crate::pool::PoolEntry;
+use class_file::PoolEntry;
 use std::alloc::{AllocError, Global};
 
 /// The bytes that a class file begins with.

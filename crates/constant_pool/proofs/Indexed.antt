@@ -4,7 +4,7 @@ use Rattle.std.proofs.Common.{sym, ◌∙◌, ap, subst, inl, inr, arith, length
 use Rattle.indexmap.specs.IndexMap.{IndexMap, get}
 use Rattle.std.specs.Option.{option_eq}
 use Rattle.std.proofs.lemmas.Bool.{eqb-true, eqb-false}
-use Rattle.class_format.specs.declared.pool.PoolEntry.{PoolEntry}
+use Rattle.class_file.specs.declared.pool.PoolEntry.{PoolEntry}
 use Rattle.constant_pool.specs.Edit.{same_entry, least_index}
 use Rattle.constant_pool.specs.Places.{IsIndexed}
 use Rattle.constant_pool.specs.Laws.{same_entry-itself, same_entry-cases, or_at, or_at-false, least_index-push, least_index-within}

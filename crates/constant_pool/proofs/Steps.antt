@@ -1,14 +1,14 @@
 -- Calls one after another: what the first leaves, the next goes on from.
 use Rattle.std.specs.Prelude.{◌≡◌, ℕ, ◌<◌, List, length, Result, Ok, Err, IfOk, OnErr, take}
 use Rattle.std.proofs.Common.{sym, ◌∙◌, ap, subst, arith}
-use Rattle.class_format.specs.declared.pool.PoolEntry.{PoolEntry}
+use Rattle.class_file.specs.declared.pool.PoolEntry.{PoolEntry}
 use Rattle.constant_pool.specs.declared.fault.PoolFault.{PoolFault}
 use Rattle.constant_pool.specs.declared.fault.PoolFault.TheVariants.{PoolFull}
 use Rattle.constant_pool.specs.Edit.{Placed, Extends}
 use Rattle.constant_pool.specs.Answers.{Gives, IsFull}
 use Rattle.constant_pool.specs.Laws.{extends-length, extends-take, extends-further, extends-itself}
 use Rattle.std.specs.Prelude.{Option, Some}
-use Rattle.class_format.specs.Pool.{Reference, field_at}
+use Rattle.class_file.specs.Pool.{Reference, field_at}
 use Rattle.constant_pool.specs.declared.calls.MemberKind.{MemberKind}
 use Rattle.constant_pool.specs.declared.calls.MemberKind.TheVariants as kind
 use Rattle.constant_pool.specs.Meaning.{NamesMember, field_named}

@@ -1,6 +1,6 @@
 -- What the calls of an edit answer.
 use Rattle.std.specs.Prelude.{◌≡◌, ℕ, ◌<◌, List, length, Result, IfOk, IfErr}
-use Rattle.class_format.specs.declared.pool.PoolEntry.{PoolEntry}
+use Rattle.class_file.specs.declared.pool.PoolEntry.{PoolEntry}
 use Rattle.constant_pool.specs.declared.fault.PoolFault.{PoolFault}
 use Rattle.constant_pool.specs.declared.fault.PoolFault.TheVariants.{PoolFull}
 use Rattle.constant_pool.specs.Edit.{Placed}

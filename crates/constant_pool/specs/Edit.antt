@@ -1,9 +1,9 @@
 -- What an edit of a constant pool appends (JVMS 4.4): an entry that has no equal there yet. Old entries keep their indices.
 use Rattle.std.specs.Prelude.{◌≡◌, ℕ, suc, ◌+◌, Bool, if◌then◌else◌, List, [], ◌∷◌, ◌++◌, length, Option, Some, None, option_map}
-use Rattle.class_format.specs.declared.pool.PoolEntry.{PoolEntry}
-use Rattle.class_format.specs.declared.pool.PoolEntry.TheVariants as entry
-use Rattle.class_format.specs.Sound.{is_wide}
-use Rattle.class_format.specs.contracts.pool.PoolEntryPartialEq.TheImpl.{ghosts}
+use Rattle.class_file.specs.declared.pool.PoolEntry.{PoolEntry}
+use Rattle.class_file.specs.declared.pool.PoolEntry.TheVariants as entry
+use Rattle.class_file.specs.Sound.{is_wide}
+use Rattle.class_file.specs.contracts.pool.PoolEntryPartialEq.TheImpl.{ghosts}
 use Rattle.aj_names.specs.ModifiedUtf8.{text_spelling}
 use Rattle.aj_names.specs.declared.types.FieldName.{FieldName}
 use Rattle.aj_names.specs.declared.types.MethodName.{MethodName}

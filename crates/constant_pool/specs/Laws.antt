@@ -5,10 +5,10 @@ use Rattle.std.proofs.Math.Seq.{take-append_seam}
 use Rattle.std.specs.Cmp.Lexicographic.{bytes_decides}
 use Rattle.std.proofs.lemmas.Bool.{eqb-true, and_parts, cases_Bool, false≢true}
 use Rattle.std.proofs.lemmas.Bool.Decides.{Decides-int_eq}
-use Rattle.class_format.specs.declared.pool.PoolEntry.{PoolEntry}
-use Rattle.class_format.specs.declared.pool.PoolEntry.TheVariants as entry
-use Rattle.class_format.specs.contracts.pool.PoolEntryEq.TheImpl.Laws as laws
-use Rattle.class_format.specs.Sound.{is_wide}
+use Rattle.class_file.specs.declared.pool.PoolEntry.{PoolEntry}
+use Rattle.class_file.specs.declared.pool.PoolEntry.TheVariants as entry
+use Rattle.class_file.specs.contracts.pool.PoolEntryEq.TheImpl.Laws as laws
+use Rattle.class_file.specs.Sound.{is_wide}
 use Rattle.aj_names.specs.ModifiedUtf8.{text_spelling}
 use Rattle.constant_pool.specs.Edit.{same_entry, least_index, slots, placed_at, with_entry, with_text, with_class, with_string, with_named_type, with_member, member_entry, Extends}
 use Rattle.constant_pool.specs.declared.calls.MemberKind.{MemberKind}

@@ -3,10 +3,10 @@ use Rattle.std.specs.Prelude.{◌≡◌, ℕ, zero, suc, ◌≤◌, Bool, true, 
 use Rattle.std.proofs.Common.{sym, ◌∙◌, ap, subst, inl, inr, arith, add-one}
 use Rattle.std.proofs.lemmas.Option.{option_and_then_some, same_Some}
 use Rattle.std.proofs.lemmas.Bool.{cases_Bool}
-use Rattle.class_format.specs.declared.pool.PoolEntry.{PoolEntry}
-use Rattle.class_format.specs.declared.pool.PoolEntry.TheVariants as entry
-use Rattle.class_format.specs.Pool.{NamedType, Reference, entry_at, as_text, text_at, as_class, class_at, as_string, string_at, as_named_type, named_type_at, referred, as_field, field_at, as_method, method_at}
-use Rattle.class_format.specs.Sound.{is_wide}
+use Rattle.class_file.specs.declared.pool.PoolEntry.{PoolEntry}
+use Rattle.class_file.specs.declared.pool.PoolEntry.TheVariants as entry
+use Rattle.class_file.specs.Pool.{NamedType, Reference, entry_at, as_text, text_at, as_class, class_at, as_string, string_at, as_named_type, named_type_at, referred, as_field, field_at, as_method, method_at}
+use Rattle.class_file.specs.Sound.{is_wide}
 use Rattle.aj_names.specs.ModifiedUtf8.{text_spelling}
 use Rattle.aj_names.specs.declared.types.FieldName.{FieldName}
 use Rattle.aj_names.specs.declared.types.MethodName.{MethodName}

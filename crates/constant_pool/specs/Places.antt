@@ -1,7 +1,7 @@
 -- The map that finds entries of a pool.
 use Rattle.std.specs.Prelude.{◌≡◌, ℕ, ◌≤◌, List, length}
 use Rattle.indexmap.specs.IndexMap.{IndexMap, get}
-use Rattle.class_format.specs.declared.pool.PoolEntry.{PoolEntry}
+use Rattle.class_file.specs.declared.pool.PoolEntry.{PoolEntry}
 use Rattle.constant_pool.specs.Edit.{same_entry, least_index}
 
 -- The pool's count is at most 65,535, and the map has each entry at its least index, and no others.

@@ -2,15 +2,15 @@
 
 ghost use Rattle.std.specs.Prelude.{◌≡◌, ◌≤◌, length, Some, IfOk, OnErr};
 ghost use Rattle.aj_names.specs.ModifiedUtf8.{text_spelling};
-ghost use Rattle.class_format.specs.declared.pool.PoolEntry.{PoolEntry};
+ghost use Rattle.class_file.specs.declared.pool.PoolEntry.{PoolEntry};
 ghost use Rattle.constant_pool.specs.Edit.{with_entry, with_text, with_class, with_string, with_named_type, with_member, with_field, with_method, method_kind, member_entry, Extends};
-ghost use Rattle.class_format.specs.Pool.{entry_at, text_at, class_at, string_at, field_at};
+ghost use Rattle.class_file.specs.Pool.{entry_at, text_at, class_at, string_at, field_at};
 ghost use Rattle.constant_pool.specs.Meaning.{reference, NamesMember};
 ghost use Rattle.constant_pool.specs.Answers.{Gives, IsFull};
 
 use crate::{PoolEdit, PoolFault};
 use aj_names::{ByteString, FieldName, InternalName, MethodName, utf8_write};
-use class_format::PoolEntry;
+use class_file::PoolEntry;
 
 /// Which entry names a member (JVMS 4.4.2).
 #[derive(Clone, Copy)]

@@ -3,12 +3,12 @@
 ghost use Rattle.std.specs.Prelude.{◌≡◌, ◌≤◌, ◌<◌, ◌+◌, ◌-◌, ◌++◌, ◌∷◌, [], length, take, Some, IfOk, IfErr, OnOk, OnErr};
 ghost use Rattle.constant_pool.specs.Edit.{with_entry, with_text, least_index, Extends};
 ghost use Rattle.constant_pool.specs.Answers.{Gives, IsFull};
-ghost use Rattle.class_format.specs.Pool.{entry_at};
-ghost use Rattle.class_format.specs.Sound.{is_wide};
+ghost use Rattle.class_file.specs.Pool.{entry_at};
+ghost use Rattle.class_file.specs.Sound.{is_wide};
 
 use crate::PoolFault;
 use aj_names::{ByteString, Items};
-use class_format::PoolEntry;
+use class_file::PoolEntry;
 use indexmap::IndexMap;
 use std::alloc::{AllocError, Global};
 use std::marker::Model;
@@ -25,7 +25,7 @@ pub struct PoolEdit {
 
 impl Model for PoolEdit {
     ghost use Rattle.std.specs.Prelude.{List};
-    ghost use Rattle.class_format.specs.declared.pool.PoolEntry.{PoolEntry};
+    ghost use Rattle.class_file.specs.declared.pool.PoolEntry.{PoolEntry};
     ghost use Rattle.constant_pool.specs.Places.{IsIndexed};
 
     ghost Value = { List PoolEntry };

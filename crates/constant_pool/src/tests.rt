@@ -4,7 +4,7 @@ ghost use Rattle.std.specs.Prelude.{◌≡◌, length, IfOk};
 
 use crate::{PoolEdit, PoolFault};
 use aj_names::{ByteString, FieldName, InternalName, MethodName};
-use class_format::PoolEntry;
+use class_file::PoolEntry;
 use std::alloc::{AllocError, Global};
 use std::process::Abort;
 use std::test::Fail;

@@ -3,7 +3,7 @@ use Rattle.std.proofs.Common.{◌≡◌, ℕ, true, [], ◌∷◌, Some, None, r
 use Rattle.event_machine.specs.Observation.{Observation, observed}
 use Rattle.opcode_table.specs.Decoding.{decoded}
 use Rattle.opcode_table.specs.Table.{opcode}
-use Rattle.class_format.specs.FirstForm.{is_first_form}
+use Rattle.class_file.specs.FirstForm.{is_first_form}
 use Rattle.jp_model.specs.Events.{Event, Print, Ending, Returned}
 use Rattle.jp_model.specs.Classes.{method_named, entry_of, class_step, class_start}
 use Rattle.jp_model.specs.AspectText.{is_first_aspect, aspect_of}

@@ -3,7 +3,7 @@
 use Rattle.std.specs.Prelude.{◌≡◌, ℕ, ◌==◌, ◌&&◌, ◌||◌, not, nat_le, Bool, true, IsTrue, List, [], ◌∷◌, ◌++◌, length, codes}
 use Rattle.std.specs.List.{list_all}
 use Rattle.std.specs.Str.{bytes_eq}
-use Rattle.class_format.specs.FirstForm.{is_letter_or_digit, is_identifier, is_printable_text}
+use Rattle.class_file.specs.FirstForm.{is_letter_or_digit, is_identifier, is_printable_text}
 use Rattle.jp_model.specs.declared.first_aspect.FirstAspect.{FirstAspect}
 use Rattle.jp_model.specs.Aspects.{PrintLine, Aspect}
 

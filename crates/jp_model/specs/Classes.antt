@@ -5,15 +5,15 @@ use Rattle.std.specs.Str.{bytes_eq}
 use Rattle.opcode_table.specs.declared.insn.Insn.{Insn}
 use Rattle.opcode_table.specs.declared.insn.Insn.TheVariants as insn
 use Rattle.opcode_table.specs.Decoding.{Decoded, decoded}
-use Rattle.class_format.specs.declared.pool.PoolEntry.{PoolEntry}
-use Rattle.class_format.specs.declared.class_file.ClassFile.{ClassFile}
-use Rattle.class_format.specs.declared.class_file.Member.{Member}
-use Rattle.class_format.specs.declared.class_file.Attribute.{Attribute}
-use Rattle.class_format.specs.declared.class_file.Content.{Content}
-use Rattle.class_format.specs.declared.class_file.Content.TheVariants as content
-use Rattle.class_format.specs.declared.class_file.CodeAttr.{CodeAttr}
-use Rattle.class_format.specs.FirstForm.{is_text}
-use Rattle.class_format.specs.Pool.{NamedType, Reference, string_at, field_at, method_at, this_name, member_type}
+use Rattle.class_file.specs.declared.pool.PoolEntry.{PoolEntry}
+use Rattle.class_file.specs.declared.types.ClassFile.{ClassFile}
+use Rattle.class_file.specs.declared.types.Member.{Member}
+use Rattle.class_file.specs.declared.types.Attribute.{Attribute}
+use Rattle.class_file.specs.declared.types.Content.{Content}
+use Rattle.class_file.specs.declared.types.Content.TheVariants as content
+use Rattle.class_file.specs.declared.types.CodeAttr.{CodeAttr}
+use Rattle.class_file.specs.FirstForm.{is_text}
+use Rattle.class_file.specs.Pool.{NamedType, Reference, string_at, field_at, method_at, this_name, member_type}
 use Rattle.jp_model.specs.Values.{system_class, print_stream_class, Literal, Made, Reference as Pointer}
 use Rattle.jp_model.specs.Effect.{Operation, DoNothing, Constant, GetStatic, InvokeStatic, InvokeVirtual, Return}
 use Rattle.jp_model.specs.Machine.{World, Rule, PrintLine, Entry, Found, Declared, Library, Missing, Code, same_type, same_member, entered, State, Step, step}

@@ -2,7 +2,7 @@
 -- have a few semantic forms; here are those of nop, ldc of a string, getstatic, invokestatic,
 -- invokevirtual and return.
 use Rattle.std.specs.Prelude.{ℕ, ◌+◌, nat_le, if◌then◌else◌, List, [], ◌∷◌, Option, None}
-use Rattle.class_format.specs.Pool.{Reference}
+use Rattle.class_file.specs.Pool.{Reference}
 use Rattle.jp_model.specs.Values.{Held, Value, Plain, Local, width, Content}
 
 -- a semantic form with its operands

@@ -1,20 +1,19 @@
 -- What weaving promises of the classes that it writes.
-use Rattle.std.specs.Prelude.{◌≡◌, ◌≢◌, ℕ, ◌+◌, ◌==◌, not, Bool, true, false, IsTrue, List, [], ◌∷◌, ◌++◌, length, map, codes, Option, Some, None, slice_get, Ok}
+use Rattle.std.specs.Prelude.{◌≡◌, ◌≢◌, ℕ, ◌+◌, ◌-◌, ◌*◌, ◌/◌, ◌%◌, ◌==◌, ◌&&◌, if◌then◌else◌, nat_le, not, Bool, true, false, IsTrue, List, [], ◌∷◌, ◌++◌, length, map, codes, Option, Some, None, slice_get, Ok}
 use Rattle.std.specs.List.{filter, AllZip, AllByRecursion, starts_with}
 use Rattle.event_machine.specs.Equivalent.{Equivalent}
 use Rattle.event_machine.specs.Observation.{IsPrefix}
 use Rattle.aj_outside.specs.Files.{Files, put_each}
 use Rattle.opcode_table.specs.declared.insn.Insn.{Insn}
 use Rattle.opcode_table.specs.Decoding.{decoded}
-use Rattle.class_format.specs.declared.class_file.ClassFile.{ClassFile}
-use Rattle.class_format.specs.declared.class_file.Member.{Member}
-use Rattle.class_format.specs.declared.class_file.Attribute.{Attribute}
-use Rattle.class_format.specs.declared.class_file.Content.{Content}
-use Rattle.class_format.specs.declared.class_file.Content.TheVariants as content
-use Rattle.class_format.specs.Spelling.{spelling}
-use Rattle.class_format.specs.Range.{is_writable}
-use Rattle.class_format.specs.Sound.{pool_is_sound}
-use Rattle.class_format.specs.Pool.{Reference, this_name, super_name, text_at}
+use Rattle.class_file.specs.declared.types.ClassFile.{ClassFile}
+use Rattle.class_file.specs.declared.types.Member.{Member}
+use Rattle.class_file.specs.declared.types.Attribute.{Attribute}
+use Rattle.class_file.specs.declared.types.Content.{Content}
+use Rattle.class_file.specs.declared.types.Content.TheVariants as content
+use Rattle.class_file.specs.Spelling.{spelling}
+use Rattle.class_file.specs.WellFormed.{is_well_formed}
+use Rattle.class_file.specs.Pool.{Reference, this_name, super_name, text_at}
 use Rattle.jp_model.specs.Values.{object_class}
 use Rattle.jp_model.specs.Events.{is_broken}
 use Rattle.jp_model.specs.Aspects.{Aspect}
@@ -54,9 +53,25 @@ abbrev pub named_so : Option (List ℕ) → List ℕ
 named_so None = []
 named_so (Some name) = name
 
+-- the four bytes of a character past U+FFFF in UTF-8: `high` and `low` are the 10 bits that the two
+-- surrogates hold
+abbrev pub four_bytes : ℕ → ℕ → List ℕ
+four_bytes high low =
+    let n = 0x10000 + (high * 1024 + low) in
+    (0xF0 + n / 0x40000) ∷ (0x80 + (n / 0x1000) % 64) ∷ (0x80 + (n / 64) % 64) ∷ (0x80 + n % 64) ∷ []
+
+-- A name in UTF-8, from its modified UTF-8 (JVMS 4.4.7): the surrogates of a name stand in pairs, six
+-- bytes that begin with ED A0 or higher.
+abbrev pub utf8_of : List ℕ → List ℕ
+utf8_of (a ∷ b ∷ c ∷ d ∷ e ∷ f ∷ rest) =
+    if a == 0xED && nat_le 0xA0 b
+    then four_bytes ((b - 0xA0) * 64 + (c - 0x80)) ((e - 0xB0) * 64 + (f - 0x80)) ++ utf8_of rest
+    else a ∷ utf8_of (b ∷ c ∷ d ∷ e ∷ f ∷ rest)
+utf8_of bytes = bytes
+
 -- OUT/NAME.class
 abbrev pub output_name : List ℕ → ClassFile → List ℕ
-output_name folder c = folder ++ (47 ∷ (named_so (this_name c) ++ codes ".class"))
+output_name folder c = folder ++ (47 ∷ (utf8_of (named_so (this_name c)) ++ codes ".class"))
 
 abbrev pub output : List ℕ → ClassFile → List ℕ × List ℕ
 output folder c = (output_name folder c, spelling c)
@@ -160,13 +175,12 @@ pub record HoldsDeclared (classes : List ClassFile) (aspects : List Aspect) (wri
 
 -- ---- all of it
 
--- a class that files can hold
-pub record IsWritten (written : ClassFile) : Type 0 where
-  pub writable : IsTrue (is_writable written)
-  pub sound : IsTrue (pool_is_sound written.pool)
+-- a class file
+abbrev pub IsWritten : ClassFile → Type 0
+IsWritten written = IsTrue (is_well_formed written)
 
--- The written classes are a weaving of the aspects into the classes. Each is a class file: its numbers
--- fit their fields, so that its spelling is its own, and its pool is sound.
+-- The written classes are a weaving of the aspects into the classes. Each is a class file, so that its
+-- spelling is its own and is read as it.
 pub record IsWeaving (classes : List ClassFile) (aspects : List Aspect) (written : List ClassFile) : Type 0 where
   pub formed : AllByRecursion IsWritten written
   pub extended : AreExtended classes aspects written

@@ -4,10 +4,10 @@ use Rattle.std.specs.Prelude.{◌≡◌, ℕ, ◌<◌, ◌&&◌, ◌||◌, not, 
 use Rattle.std.specs.List.{filter, ends_with}
 use Rattle.std.specs.Prelude.{nat_eq}
 use Rattle.aj_outside.specs.Files.{Files, is_under}
-use Rattle.class_format.specs.declared.class_file.ClassFile.{ClassFile}
-use Rattle.class_format.specs.Spelling.{spelling}
-use Rattle.class_format.specs.Pool.{this_name}
-use Rattle.class_format.specs.FirstForm.{is_readable}
+use Rattle.class_file.specs.declared.types.ClassFile.{ClassFile}
+use Rattle.class_file.specs.Spelling.{spelling}
+use Rattle.class_file.specs.Pool.{this_name}
+use Rattle.class_file.specs.WellFormed.{is_well_formed}
 use Rattle.jp_model.specs.declared.first_aspect.FirstAspect.{FirstAspect}
 use Rattle.jp_model.specs.AspectText.{SpellsAspect}
 
@@ -28,9 +28,9 @@ is_input name = is_class_file name || is_aspect_file name
 abbrev pub inputs_in : List ℕ → Files → Files
 inputs_in folder files = filter (λ f. is_under folder f.0 && is_input f.0) files
 
--- the bytes are the spelling of a class of a form that is built
+-- the bytes are the spelling of a class file
 pub record SpellsClass (bytes : List ℕ) (c : ClassFile) : Type 0 where
-  pub formed : IsTrue (is_readable c)
+  pub formed : IsTrue (is_well_formed c)
   pub spelled : bytes ≡ spelling c
 
 -- The files say these classes and these aspects, in order: each class file spells a class of the form,

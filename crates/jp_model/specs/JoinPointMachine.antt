@@ -2,7 +2,7 @@
 -- from the aspects' own text. At a place without a chain its step is the class machine's.
 use Rattle.std.specs.Prelude.{◌++◌, List, [], ◌∷◌, map, Option, Some, None}
 use Rattle.event_machine.specs.Outcome.{Went, Said, Ended}
-use Rattle.class_format.specs.declared.class_file.ClassFile.{ClassFile}
+use Rattle.class_file.specs.declared.types.ClassFile.{ClassFile}
 use Rattle.jp_model.specs.Values.{Held}
 use Rattle.jp_model.specs.Events.{Event, Print, Returned, Broken}
 use Rattle.jp_model.specs.Effect.{Operation, Effect, On, Ask, Call, Leave, effect}

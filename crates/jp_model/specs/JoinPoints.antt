@@ -3,7 +3,7 @@
 use Rattle.std.specs.Prelude.{◌&&◌, Bool, List, [], Option, Some, None}
 use Rattle.std.specs.List.{filter, flat_map}
 use Rattle.std.specs.Str.{bytes_eq}
-use Rattle.class_format.specs.Pool.{Reference}
+use Rattle.class_file.specs.Pool.{Reference}
 use Rattle.jp_model.specs.Effect.{Operation, DoNothing, Constant, GetStatic, InvokeStatic, InvokeVirtual, Return}
 use Rattle.jp_model.specs.Machine.{Code}
 use Rattle.jp_model.specs.Aspects.{CallPattern, Advice, Aspect}

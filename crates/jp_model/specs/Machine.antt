@@ -4,7 +4,7 @@
 use Rattle.std.specs.Prelude.{ℕ, ◌+◌, ◌-◌, ◌==◌, ◌&&◌, nat_le, if◌then◌else◌, Bool, is_some, List, [], ◌∷◌, ◌++◌, length, map, replicate, Option, Some, None}
 use Rattle.std.specs.Str.{bytes_eq}
 use Rattle.event_machine.specs.Outcome.{Outcome, Went, Said, Ended}
-use Rattle.class_format.specs.Pool.{NamedType, Reference}
+use Rattle.class_file.specs.Pool.{NamedType, Reference}
 use Rattle.jp_model.specs.Values.{print_stream_class, Made, Literal, class_of, Held, Reference as Pointer, Plain, Unset, Holds, Content}
 use Rattle.jp_model.specs.Events.{Event, Print, Ending, Returned, Unresolved, Broken}
 use Rattle.jp_model.specs.Effect.{Operation, Request, StaticField, Effect, On, Ask, Call, Leave, push, weight, effect}

@@ -8,10 +8,10 @@ use Rattle.std.proofs.Math.Logic.{⊎_elim}
 use Rattle.std.proofs.lemmas.Bool.{and_parts, or_cases, or_left, or_right, ltb-true, ltb-false, true≢false}
 use Rattle.std.proofs.lemmas.Slice.Eq.{bytes_eq-Decides}
 use Rattle.aj_outside.specs.Files.{Files}
-use Rattle.class_format.specs.declared.class_file.ClassFile.{ClassFile}
-use Rattle.class_format.specs.Pool.{this_name}
-use Rattle.class_format.specs.Sound.{is_some_that}
-use Rattle.class_format.specs.FirstForm.{is_first_form}
+use Rattle.class_file.specs.declared.types.ClassFile.{ClassFile}
+use Rattle.class_file.specs.Pool.{this_name}
+use Rattle.class_file.specs.Sound.{is_some_that}
+use Rattle.class_file.specs.FirstForm.{is_first_form}
 use Rattle.jp_model.specs.declared.first_aspect.FirstAspect.{FirstAspect}
 use Rattle.jp_model.specs.AspectText.{is_first_aspect, aspect_of}
 use Rattle.jp_model.specs.Headline.{IsWeaving}

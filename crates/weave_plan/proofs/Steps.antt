@@ -5,7 +5,7 @@ use Rattle.std.specs.Ordering.{match_ordering}
 use Rattle.std.proofs.Math.Seq.{drop-cons}
 use Rattle.std.proofs.lemmas.List.{take_more, map-append}
 use Rattle.aj_outside.specs.Files.{Files, byte_order, put_file, put_each}
-use Rattle.class_format.specs.declared.class_file.ClassFile.{ClassFile}
+use Rattle.class_file.specs.declared.types.ClassFile.{ClassFile}
 use Rattle.jp_model.specs.declared.first_aspect.FirstAspect.{FirstAspect}
 use Rattle.jp_model.specs.Headline.{output}
 use Rattle.weave_plan.specs.declared.planning.NamedFile.{NamedFile}

@@ -6,14 +6,14 @@ use Rattle.std.specs.Str.{bytes_eq, IsUtf8, IsAscii}
 use Rattle.std.proofs.lemmas.Bool.{and_parts, and_from, cond-true, eqb-true, ltb-true, false_from_ne_true, true≢false}
 use Rattle.std.proofs.lemmas.Slice.Eq.{bytes_eq-Decides}
 use Rattle.std.proofs.lemmas.Str.{IsUtf8-from_ascii}
-use Rattle.class_format.specs.declared.pool.PoolEntry.{PoolEntry}
-use Rattle.class_format.specs.declared.class_file.ClassFile.{ClassFile}
-use Rattle.class_format.specs.declared.class_file.Member.{Member}
-use Rattle.class_format.specs.Pool.{text_at, this_name, super_name}
-use Rattle.class_format.specs.Range.{is_writable}
-use Rattle.class_format.specs.Text.{within}
-use Rattle.class_format.specs.Sound.{is_some_that, pool_is_sound}
-use Rattle.class_format.specs.FirstForm.{is_letter_or_digit, is_first_form, has_known_version, has_short_lists, has_form_names, has_form_methods, has_kept_attributes, has_form_flags, is_form_method, is_form_attribute, is_identifier, begins_with_letter, is_reserved, is_text, is_single, no_arguments, method_names, own_name, object_class, are_distinct}
+use Rattle.class_file.specs.declared.pool.PoolEntry.{PoolEntry}
+use Rattle.class_file.specs.declared.types.ClassFile.{ClassFile}
+use Rattle.class_file.specs.declared.types.Member.{Member}
+use Rattle.class_file.specs.Pool.{text_at, this_name, super_name}
+use Rattle.class_file.specs.Range.{is_writable}
+use Rattle.class_file.specs.Text.{within}
+use Rattle.class_file.specs.Sound.{is_some_that, pool_is_sound}
+use Rattle.class_file.specs.FirstForm.{is_letter_or_digit, is_first_form, has_known_version, has_short_lists, has_form_names, has_form_methods, has_kept_attributes, has_form_flags, is_form_method, is_form_attribute, is_identifier, begins_with_letter, is_reserved, is_text, is_single, no_arguments, method_names, own_name, object_class, are_distinct}
 use Rattle.jp_model.specs.declared.first_aspect.FirstAspect.{FirstAspect}
 use Rattle.jp_model.specs.AspectText.{is_first_aspect, is_short_identifier, is_literal, aspect_of}
 use Rattle.jp_model.specs.Headline.{Behaves, has_within, is_generated, declared_member, declared_members, KeepsUntouched, KeepsDeclared, IsAspectClass, IsWritten, IsWeaving}

@@ -3,11 +3,11 @@ use Rattle.std.specs.Prelude.{◌≡◌, ◌≢◌, ℕ, IsTrue, List, Option, S
 use Rattle.std.specs.List.{AllByRecursion}
 use Rattle.std.specs.Option.{option_to_list}
 use Rattle.aj_outside.specs.Files.{Files}
-use Rattle.class_format.specs.declared.class_file.ClassFile.{ClassFile}
-use Rattle.class_format.specs.Pool.{this_name}
-use Rattle.class_format.specs.Range.{is_writable}
-use Rattle.class_format.specs.Sound.{is_some_that}
-use Rattle.class_format.specs.FirstForm.{is_first_form, is_identifier}
+use Rattle.class_file.specs.declared.types.ClassFile.{ClassFile}
+use Rattle.class_file.specs.Pool.{this_name}
+use Rattle.class_file.specs.Range.{is_writable}
+use Rattle.class_file.specs.Sound.{is_some_that}
+use Rattle.class_file.specs.FirstForm.{is_first_form, is_identifier}
 use Rattle.jp_model.specs.declared.first_aspect.FirstAspect.{FirstAspect}
 use Rattle.jp_model.specs.AspectText.{is_first_aspect, aspect_of}
 use Rattle.jp_model.specs.Headline.{IsWeaving, outputs_of}

@@ -1,7 +1,7 @@
 -- What is planned from the files that were read.
 use Rattle.std.specs.Prelude.{◌≡◌, ℕ, List, map, Result, Ok, Err}
 use Rattle.aj_outside.specs.Files.{Files}
-use Rattle.class_format.specs.declared.class_file.ClassFile.{ClassFile}
+use Rattle.class_file.specs.declared.types.ClassFile.{ClassFile}
 use Rattle.jp_model.specs.declared.first_aspect.FirstAspect.{FirstAspect}
 use Rattle.jp_model.specs.AspectText.{aspect_of}
 use Rattle.jp_model.specs.Input.{Reads}

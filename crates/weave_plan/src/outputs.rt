@@ -4,7 +4,7 @@ ghost use Rattle.std.specs.Prelude.{◌≡◌, ◌++◌, IsTrue, IfOk, OnOk, Som
 ghost use Rattle.std.specs.List.{AllByRecursion};
 ghost use Rattle.std.specs.String.{string_bytes};
 ghost use Rattle.aj_outside.specs.Files.{put_file};
-ghost use Rattle.class_format.specs.FirstForm.{is_first_form, is_identifier};
+ghost use Rattle.class_file.specs.FirstForm.{is_first_form, is_identifier};
 ghost use Rattle.jp_model.specs.AspectText.{is_first_aspect};
 ghost use Rattle.jp_model.specs.Headline.{output, output_name, outputs_of};
 ghost use Rattle.weave_plan.specs.Fit.{FitEachOther, Fit, HasFile, AreWritten};

@@ -2,8 +2,8 @@
 
 ghost use Rattle.std.specs.Prelude.{◌≡◌, IfOk, false};
 ghost use Rattle.std.specs.List.{AllZip, list_any};
-ghost use Rattle.class_format.specs.Pool.{this_name};
-ghost use Rattle.class_format.specs.Sound.{is_some_that};
+ghost use Rattle.class_file.specs.Pool.{this_name};
+ghost use Rattle.class_file.specs.Sound.{is_some_that};
 ghost use Rattle.std.specs.Str.{bytes_eq};
 ghost use Rattle.jp_model.specs.Input as input;
 ghost use Rattle.weave_plan.specs.Plan.{files_of, IfNotBuilt};

@@ -5,9 +5,9 @@ use Rattle.opcode_table.specs.declared.insn.Insn.TheVariants as insn
 use Rattle.opcode_table.specs.Decoding.{decoded}
 use Rattle.opcode_table.specs.Spelling.{spelling}
 use Rattle.opcode_table.specs.Table.{opcode}
-use Rattle.class_format.specs.declared.class_file.ClassFile.{ClassFile}
-use Rattle.class_format.specs.declared.class_file.CodeAttr.{CodeAttr}
-use Rattle.class_format.specs.Pool.{this_name}
+use Rattle.class_file.specs.declared.types.ClassFile.{ClassFile}
+use Rattle.class_file.specs.declared.types.CodeAttr.{CodeAttr}
+use Rattle.class_file.specs.Pool.{this_name}
 use Rattle.jp_model.specs.Events.{Event, Print, Ending, Returned}
 use Rattle.jp_model.specs.Classes.{Method, is_named, method_named, entry_of, class_step, class_start}
 use Rattle.jp_model.specs.AspectText.{aspect_of}

@@ -5,13 +5,13 @@ use Rattle.std.specs.List.{flat_map, AllZip, AllByRecursion}
 use Rattle.opcode_table.specs.declared.insn.Insn.{Insn}
 use Rattle.opcode_table.specs.declared.insn.Insn.TheVariants as insn
 use Rattle.opcode_table.specs.Spelling.{spelling as insn_spelling, IsInsn, IsSingle}
-use Rattle.class_format.specs.declared.pool.PoolEntry.{PoolEntry}
-use Rattle.class_format.specs.declared.pool.PoolEntry.TheVariants as entry
-use Rattle.class_format.specs.declared.class_file.ClassFile.{ClassFile}
-use Rattle.class_format.specs.declared.class_file.Member.{Member}
-use Rattle.class_format.specs.declared.class_file.Attribute.{Attribute}
-use Rattle.class_format.specs.declared.class_file.Content.TheVariants as content
-use Rattle.class_format.specs.declared.class_file.CodeAttr.{CodeAttr}
+use Rattle.class_file.specs.declared.pool.PoolEntry.{PoolEntry}
+use Rattle.class_file.specs.declared.pool.PoolEntry.TheVariants as entry
+use Rattle.class_file.specs.declared.types.ClassFile.{ClassFile}
+use Rattle.class_file.specs.declared.types.Member.{Member}
+use Rattle.class_file.specs.declared.types.Attribute.{Attribute}
+use Rattle.class_file.specs.declared.types.Content.TheVariants as content
+use Rattle.class_file.specs.declared.types.CodeAttr.{CodeAttr}
 use Rattle.jp_model.specs.declared.first_aspect.FirstAspect.{FirstAspect}
 use Rattle.jp_model.specs.AspectText.{aspect_of}
 use Rattle.jp_model.specs.JoinPoints.{chain_of}

@@ -1,9 +1,9 @@
 //! The laws, as contracts of functions that do nothing.
 
 ghost use Rattle.std.specs.Prelude.{◌≡◌, ◌≢◌, Some, List, [], ◌∷◌, IsTrue};
-ghost use Rattle.class_format.specs.declared.class_file.ClassFile.{ClassFile};
-ghost use Rattle.class_format.specs.Pool.{this_name};
-ghost use Rattle.class_format.specs.FirstForm.{is_first_form};
+ghost use Rattle.class_file.specs.declared.types.ClassFile.{ClassFile};
+ghost use Rattle.class_file.specs.Pool.{this_name};
+ghost use Rattle.class_file.specs.FirstForm.{is_first_form};
 ghost use Rattle.jp_model.specs.declared.first_aspect.FirstAspect.{FirstAspect};
 ghost use Rattle.jp_model.specs.AspectText.{is_first_aspect, aspect_of};
 ghost use Rattle.jp_model.specs.Headline.{Behaves};

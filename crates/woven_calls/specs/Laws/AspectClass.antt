@@ -5,10 +5,10 @@ use Rattle.std.proofs.lemmas.Bool.{and_parts, cond-true, false_from_ne_true, ltb
 use Rattle.std.proofs.lemmas.Slice.Eq.{bytes_eq-Decides}
 use Rattle.opcode_table.specs.Decoding.{decoded}
 use Rattle.opcode_table.specs.Table.{opcode}
-use Rattle.class_format.specs.declared.class_file.ClassFile.{ClassFile}
-use Rattle.class_format.specs.declared.class_file.CodeAttr.{CodeAttr}
-use Rattle.class_format.specs.FirstForm.{is_printable, is_printable_text, is_identifier}
-use Rattle.class_format.specs.Pool.{Reference, this_name}
+use Rattle.class_file.specs.declared.types.ClassFile.{ClassFile}
+use Rattle.class_file.specs.declared.types.CodeAttr.{CodeAttr}
+use Rattle.class_file.specs.FirstForm.{is_printable, is_printable_text, is_identifier}
+use Rattle.class_file.specs.Pool.{Reference, this_name}
 use Rattle.jp_model.specs.declared.first_aspect.FirstAspect.{FirstAspect}
 use Rattle.jp_model.specs.Values.{print_stream_class, Literal, Reference as Pointer}
 use Rattle.jp_model.specs.Effect.{Constant, GetStatic, InvokeVirtual, Return}

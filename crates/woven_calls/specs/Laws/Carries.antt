@@ -1,6 +1,6 @@
 -- What it takes that a code carries out the advice of another: how the places of the two stand for each other.
 use Rattle.std.proofs.Common.{◌≡◌, ℕ, List, [], ◌∷◌, Some}
-use Rattle.class_format.specs.Pool.{Reference}
+use Rattle.class_file.specs.Pool.{Reference}
 use Rattle.jp_model.specs.Values.{Literal, Reference as Pointer}
 use Rattle.jp_model.specs.Effect.{Operation, DoNothing, Constant, GetStatic, InvokeStatic, InvokeVirtual, Return, Effect, On, Ask, Call, Leave}
 use Rattle.jp_model.specs.Effect.{Broken as Breaks}

@@ -10,10 +10,10 @@ use Rattle.opcode_table.specs.declared.fault.CodeFault.TheVariants.{Cut}
 use Rattle.opcode_table.specs.Decoding.{decoded, instruction}
 use Rattle.opcode_table.specs.Spelling.{spelling, IsInsn, IsSingle}
 use Rattle.opcode_table.specs.DecodedAgain.{decoded_where_spelled}
-use Rattle.class_format.specs.declared.pool.PoolEntry.{PoolEntry}
-use Rattle.class_format.specs.Sound.{is_some_that}
-use Rattle.class_format.specs.Pool.{Reference, string_at, field_at, method_at}
-use Rattle.class_format.specs.FirstForm.{is_printable_text, is_reference, is_system_out, is_println, is_own_method, is_form_insn, step_passes, insns_pass, no_arguments}
+use Rattle.class_file.specs.declared.pool.PoolEntry.{PoolEntry}
+use Rattle.class_file.specs.Sound.{is_some_that}
+use Rattle.class_file.specs.Pool.{Reference, string_at, field_at, method_at}
+use Rattle.class_file.specs.FirstForm.{is_printable_text, is_reference, is_system_out, is_println, is_own_method, is_form_insn, step_passes, insns_pass, no_arguments}
 use Rattle.jp_model.specs.Values.{Literal, Reference as Pointer}
 use Rattle.jp_model.specs.Effect.{Operation, DoNothing, Constant, GetStatic, InvokeStatic, InvokeVirtual, Return}
 use Rattle.jp_model.specs.Classes.{reference, println, units_of, when_println, when_no_parameters, operation}

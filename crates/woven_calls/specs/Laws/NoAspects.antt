@@ -2,8 +2,8 @@
 use Rattle.std.proofs.Common.{◌≡◌, List, [], ◌∷◌, map, Option, Some, None, refl, ap, ◌∙◌}
 use Rattle.event_machine.specs.Outcome.{outcome_map}
 use Rattle.event_machine.specs.Laws.{equivalent_observed, observed-image}
-use Rattle.class_format.specs.declared.class_file.ClassFile.{ClassFile}
-use Rattle.class_format.specs.Pool.{Reference}
+use Rattle.class_file.specs.declared.types.ClassFile.{ClassFile}
+use Rattle.class_file.specs.Pool.{Reference}
 use Rattle.jp_model.specs.Values.{Held}
 use Rattle.jp_model.specs.Events.{is_broken}
 use Rattle.jp_model.specs.Effect.{Operation}

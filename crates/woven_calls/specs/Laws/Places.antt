@@ -6,9 +6,9 @@ use Rattle.opcode_table.specs.declared.insn.Insn.{Insn}
 use Rattle.opcode_table.specs.Decoding.{Decoded, decoded}
 use Rattle.opcode_table.specs.Spelling.{spelling, IsInsn, IsSingle}
 use Rattle.opcode_table.specs.DecodedAgain.{decoded_where_spelled}
-use Rattle.class_format.specs.declared.pool.PoolEntry.{PoolEntry}
-use Rattle.class_format.specs.declared.class_file.ClassFile.{ClassFile}
-use Rattle.class_format.specs.Pool.{Reference}
+use Rattle.class_file.specs.declared.pool.PoolEntry.{PoolEntry}
+use Rattle.class_file.specs.declared.types.ClassFile.{ClassFile}
+use Rattle.class_file.specs.Pool.{Reference}
 use Rattle.jp_model.specs.declared.first_aspect.FirstAspect.{FirstAspect}
 use Rattle.jp_model.specs.AspectText.{aspect_of}
 use Rattle.jp_model.specs.Values.{print_stream_class}

@@ -1,9 +1,9 @@
 -- A pool that begins with another: what the indices of the shorter one stand for stays.
 use Rattle.std.proofs.Common.{◌≡◌, ℕ, zero, suc, ◌+◌, List, [], ◌∷◌, ◌++◌, length, Option, Some, None, refl, ap, ◌∙◌, arith, slice_get, option_and_then, codes}
-use Rattle.class_format.specs.declared.pool.PoolEntry.{PoolEntry}
-use Rattle.class_format.specs.declared.pool.PoolEntry.TheVariants as entry
-use Rattle.class_format.specs.declared.class_file.Member.{Member}
-use Rattle.class_format.specs.Pool.{NamedType, Reference, entry_at, as_text, text_at, as_class, class_at, as_string, string_at, as_named_type, named_type_at, referred, as_field, field_at, as_method, method_at, member_type}
+use Rattle.class_file.specs.declared.pool.PoolEntry.{PoolEntry}
+use Rattle.class_file.specs.declared.pool.PoolEntry.TheVariants as entry
+use Rattle.class_file.specs.declared.types.Member.{Member}
+use Rattle.class_file.specs.Pool.{NamedType, Reference, entry_at, as_text, text_at, as_class, class_at, as_string, string_at, as_named_type, named_type_at, referred, as_field, field_at, as_method, method_at, member_type}
 use Rattle.jp_model.specs.declared.first_aspect.FirstAspect.{FirstAspect}
 use Rattle.jp_model.specs.Classes.{named_type, reference}
 use Rattle.woven_calls.specs.Woven.{advice_name, call_entries, call_index}

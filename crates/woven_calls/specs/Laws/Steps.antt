@@ -5,7 +5,7 @@ use Rattle.event_machine.specs.Follows.{Follows, Leads, no_waits}
 use Rattle.event_machine.specs.Equivalent.{Equivalent}
 use Rattle.event_machine.specs.Alike.{Alike}
 use Rattle.event_machine.specs.Laws.{simulated, went, said, comes, comes_on, leads_on, locked, breaks, follows_on}
-use Rattle.class_format.specs.Pool.{Reference}
+use Rattle.class_file.specs.Pool.{Reference}
 use Rattle.jp_model.specs.Values.{print_stream_class, Literal, Made, class_of, Held, Reference as Pointer, Value, Plain, Local, Holds, Unset, Content}
 use Rattle.jp_model.specs.Events.{Event, Print, Broken, is_broken}
 use Rattle.jp_model.specs.Effect.{Operation, DoNothing, Constant, GetStatic, InvokeStatic, InvokeVirtual, Return, Request, Effect, On, Ask, Call, Leave, push, weight, effect}

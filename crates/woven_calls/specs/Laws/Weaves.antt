@@ -6,16 +6,16 @@ use Rattle.opcode_table.specs.declared.insn.Insn.{Insn}
 use Rattle.opcode_table.specs.declared.insn.Insn.TheVariants as insn
 use Rattle.opcode_table.specs.Table.{opcode}
 use Rattle.opcode_table.specs.Spelling.{spelling, IsInsn, IsSingle}
-use Rattle.class_format.specs.declared.pool.PoolEntry.{PoolEntry}
-use Rattle.class_format.specs.declared.class_file.ClassFile.{ClassFile}
-use Rattle.class_format.specs.declared.class_file.Member.{Member}
-use Rattle.class_format.specs.declared.class_file.Attribute.{Attribute}
-use Rattle.class_format.specs.declared.class_file.Content.TheVariants as content
-use Rattle.class_format.specs.declared.class_file.CodeAttr.{CodeAttr}
-use Rattle.class_format.specs.Sound.{is_some_that, pool_is_sound}
-use Rattle.class_format.specs.Range.{is_writable}
-use Rattle.class_format.specs.Pool.{NamedType, text_at, this_name, super_name, member_type}
-use Rattle.class_format.specs.FirstForm.{is_identifier, is_printable_text, is_form_insn, insns_pass, is_plain_code, has_form_code, is_text, is_form_attribute, is_single, has_form_flags, is_form_method, method_names, are_distinct, has_known_version, has_short_lists, has_form_names, has_form_methods, has_kept_attributes, own_name, object_class, no_arguments, is_first_form}
+use Rattle.class_file.specs.declared.pool.PoolEntry.{PoolEntry}
+use Rattle.class_file.specs.declared.types.ClassFile.{ClassFile}
+use Rattle.class_file.specs.declared.types.Member.{Member}
+use Rattle.class_file.specs.declared.types.Attribute.{Attribute}
+use Rattle.class_file.specs.declared.types.Content.TheVariants as content
+use Rattle.class_file.specs.declared.types.CodeAttr.{CodeAttr}
+use Rattle.class_file.specs.Sound.{is_some_that, pool_is_sound}
+use Rattle.class_file.specs.Range.{is_writable}
+use Rattle.class_file.specs.Pool.{NamedType, text_at, this_name, super_name, member_type}
+use Rattle.class_file.specs.FirstForm.{is_identifier, is_printable_text, is_form_insn, insns_pass, is_plain_code, has_form_code, is_text, is_form_attribute, is_single, has_form_flags, is_form_method, method_names, are_distinct, has_known_version, has_short_lists, has_form_names, has_form_methods, has_kept_attributes, own_name, object_class, no_arguments, is_first_form}
 use Rattle.jp_model.specs.declared.first_aspect.FirstAspect.{FirstAspect}
 use Rattle.jp_model.specs.AspectText.{aspect_of, is_short_identifier, is_unescaped, is_literal, is_first_aspect}
 use Rattle.jp_model.specs.Aspects.{Advice}

@@ -1,5 +1,5 @@
 use Rattle.std.proofs.Common.{rules, tests}
-use Rattle.class_format.specs.FirstForm.{is_letter_or_digit}
+use Rattle.class_file.specs.FirstForm.{is_letter_or_digit}
 use Rattle.std.proofs.lemmas.Iterator.{YieldsList-from_slice}
 use Rattle.std.proofs.lemmas.Iterator.Search.{all_from_yields_List}
 use Rattle.aspect_form.proofs.tokens.has_letters_and_digits.Goals as goal

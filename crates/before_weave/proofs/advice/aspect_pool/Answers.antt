@@ -1,5 +1,5 @@
 use Rattle.std.proofs.Common.{ap, ◌∙◌}
-use Rattle.class_format.specs.declared.pool.PoolEntry.TheVariants as entry
+use Rattle.class_file.specs.declared.pool.PoolEntry.TheVariants as entry
 use Rattle.before_weave.proofs.Appended.{aspect_pool_is}
 use Rattle.before_weave.proofs.advice.aspect_pool.Goals as goal
 

@@ -1,5 +1,5 @@
 use Rattle.std.proofs.Common.{ap, ◌∙◌}
-use Rattle.class_format.specs.declared.pool.PoolEntry.TheVariants as entry
+use Rattle.class_file.specs.declared.pool.PoolEntry.TheVariants as entry
 use Rattle.before_weave.proofs.Appended.{pushed}
 use Rattle.before_weave.proofs.entries.with_call_entries.Goals as goal
 

@@ -1,8 +1,8 @@
 use Rattle.std.proofs.Common.{◌≡◌, ◌+◌, List, arith, refl, ap, subst, ◌∙◌}
 use Rattle.std.specs.List.{list_all}
-use Rattle.class_format.specs.declared.pool.PoolEntry.{PoolEntry}
-use Rattle.class_format.specs.declared.class_file.ClassFile.{ClassFile}
-use Rattle.class_format.specs.declared.class_file.Member.{Member}
+use Rattle.class_file.specs.declared.pool.PoolEntry.{PoolEntry}
+use Rattle.class_file.specs.declared.types.ClassFile.{ClassFile}
+use Rattle.class_file.specs.declared.types.Member.{Member}
 use Rattle.before_weave.specs.Marks.{marks_of}
 use Rattle.before_weave.specs.Walk.{is_straight_method, AreMarkedMethods}
 use Rattle.before_weave.specs.Weaving.{with_calls, IsWeaving}

@@ -1,6 +1,6 @@
 use Rattle.std.proofs.Common.{◌≡◌, ◌+◌, ◌<◌, Some, cond, List, length, sym, subst, arith}
 use Rattle.indexmap.specs.IndexMap.{get}
-use Rattle.class_format.specs.declared.pool.PoolEntry.{PoolEntry}
+use Rattle.class_file.specs.declared.pool.PoolEntry.{PoolEntry}
 use Rattle.constant_pool.specs.Edit.{same_entry}
 use Rattle.constant_pool.proofs.Indexed.{pushed_again, pushed_new}
 use Rattle.constant_pool.proofs.edit.PoolEdit.append.Goals as goal

@@ -1,4 +1,4 @@
-use Rattle.class_format.specs.Pool.{class_at}
+use Rattle.class_file.specs.Pool.{class_at}
 use Rattle.constant_pool.specs.Edit.{with_class}
 use Rattle.constant_pool.specs.Laws.{class_extends}
 use Rattle.constant_pool.specs.Meaning.{class_found}

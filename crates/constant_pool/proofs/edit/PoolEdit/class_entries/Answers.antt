@@ -1,4 +1,4 @@
-use Rattle.class_format.specs.declared.pool.PoolEntry.TheVariants as entry
+use Rattle.class_file.specs.declared.pool.PoolEntry.TheVariants as entry
 use Rattle.constant_pool.specs.Edit.{Placed, with_entry, with_text, with_class}
 use Rattle.constant_pool.specs.Laws.{text_extends, entry_extends}
 use Rattle.constant_pool.proofs.Steps.{full_error, gives_next, full_next, extends_given, kept_next}

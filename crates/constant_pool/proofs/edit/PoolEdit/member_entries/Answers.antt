@@ -1,4 +1,4 @@
-use Rattle.class_format.specs.declared.pool.PoolEntry.{PoolEntry}
+use Rattle.class_file.specs.declared.pool.PoolEntry.{PoolEntry}
 use Rattle.std.proofs.Common.{sym, subst}
 use Rattle.constant_pool.specs.Edit.{Placed, with_entry, with_class, with_named_type, with_member, member_entry, Extends}
 use Rattle.constant_pool.specs.Laws.{entry_extends, class_extends, named_type_extends, extends-further}

@@ -1,5 +1,5 @@
-use Rattle.class_format.specs.declared.pool.PoolEntry.{PoolEntry}
-use Rattle.class_format.specs.declared.pool.PoolEntry.TheVariants as entry
+use Rattle.class_file.specs.declared.pool.PoolEntry.{PoolEntry}
+use Rattle.class_file.specs.declared.pool.PoolEntry.TheVariants as entry
 use Rattle.std.proofs.Common.{List, sym, subst}
 use Rattle.constant_pool.specs.Edit.{Placed, with_entry, with_text, with_named_type, Extends}
 use Rattle.constant_pool.specs.Laws.{text_extends, entry_extends, extends-further, extends-itself}

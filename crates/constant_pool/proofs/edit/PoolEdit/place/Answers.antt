@@ -1,5 +1,5 @@
 use Rattle.std.proofs.Common.{sym, ◌∙◌}
-use Rattle.class_format.specs.Pool.{entry_at}
+use Rattle.class_file.specs.Pool.{entry_at}
 use Rattle.constant_pool.specs.Edit.{with_entry}
 use Rattle.constant_pool.specs.Laws.{with_entry-found, with_entry-narrow, with_entry-wide, entry_extends, extends-itself}
 use Rattle.constant_pool.specs.Meaning.{entry_found, least_index-entry}

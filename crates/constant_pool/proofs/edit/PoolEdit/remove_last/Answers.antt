@@ -1,5 +1,5 @@
 use Rattle.std.proofs.Common.{◌+◌, List, sym, ◌∙◌, subst, arith}
-use Rattle.class_format.specs.declared.pool.PoolEntry.{PoolEntry}
+use Rattle.class_file.specs.declared.pool.PoolEntry.{PoolEntry}
 use Rattle.constant_pool.specs.Places.{IsIndexed}
 use Rattle.constant_pool.proofs.Indexed.{popped_again, popped_last, is_place, is_no_place}
 use Rattle.constant_pool.proofs.edit.PoolEdit.remove_last.Goals as goal

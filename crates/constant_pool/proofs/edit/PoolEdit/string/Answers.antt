@@ -1,4 +1,4 @@
-use Rattle.class_format.specs.Pool.{string_at}
+use Rattle.class_file.specs.Pool.{string_at}
 use Rattle.aj_names.specs.ModifiedUtf8.{text_spelling}
 use Rattle.constant_pool.specs.Edit.{with_string}
 use Rattle.constant_pool.specs.Laws.{string_extends}

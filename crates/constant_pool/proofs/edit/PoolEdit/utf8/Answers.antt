@@ -1,4 +1,4 @@
-use Rattle.class_format.specs.Pool.{text_at}
+use Rattle.class_file.specs.Pool.{text_at}
 use Rattle.constant_pool.specs.Edit.{with_text}
 use Rattle.constant_pool.specs.Laws.{text_extends}
 use Rattle.constant_pool.specs.Meaning.{text_found}

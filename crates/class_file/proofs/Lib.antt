@@ -1,0 +1,4 @@
+pub mod Both
+pub mod Insns
+pub mod MethodNames
+pub mod Parameters

@@ -1,0 +1,10 @@
+pub mod Spelling
+pub mod Pool
+pub mod Range
+pub mod Text
+pub mod Sound
+pub mod Code
+pub mod WellFormed
+pub mod FirstForm
+pub mod Lookup
+pub mod FirstFormLaws

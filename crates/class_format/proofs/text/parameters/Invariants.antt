@@ -1,6 +1,0 @@
-use Rattle.std.proofs.Common.{◌≡◌, ◌≤◌, ◌-◌, length}
-use Rattle.class_format.specs.Text.{parameters}
-use Rattle.class_format.proofs.text.parameters.Given as goal
-
-abbrev pub invariant-loop : goal.invariant-loop
-invariant-loop l = (parameters (length l.bytes - l.counter) l.slots l.rest ≡ parameters (length l.bytes) 0 l.bytes) × (l.slots ≤ 255)
