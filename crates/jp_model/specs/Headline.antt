@@ -48,6 +48,11 @@ Behaves classes aspects written = (r : Reference) (m : Method) → IsEntry class
 abbrev pub AreExtended : List ClassFile → List Aspect → List ClassFile → Type 0
 AreExtended classes aspects written = map this_name written ≡ map this_name classes ++ map (λ a. Some a.name) aspects
 
+-- no two of these are alike
+abbrev pub AreApart : {X : Type 0} → List X → Type 0
+AreApart [] = Unit {0}
+AreApart (x ∷ xs) = AllByRecursion (λ y. x ≢ y) xs × AreApart xs
+
 -- a class's own name, where it has one
 abbrev pub named_so : Option (List ℕ) → List ℕ
 named_so None = []
