@@ -24,16 +24,13 @@ use Rattle.jp_model.specs.Classes.{named_type, when_no_parameters, operation}
 use Rattle.jp_model.specs.Headline.{AreApart, Behaves}
 use Rattle.woven_calls.specs.Woven.{is_empty, unless, is_unadvised, woven_insn, IsWovenCode, call_entries, call_index, with_code, IsWovenMethod, IsWovenClass, IsUnadvisedCode, IsUnadvisedMethod, IsUnadvised, IsWovenOrKept, Woven, Kept, aspect_class}
 use Rattle.woven_calls.specs.Laws.Pools.{Extends, extends_append, extends_same, text_kept, class_kept, member_kept, call_names}
+use Rattle.woven_calls.specs.Laws.Grows.{is_there}
 use Rattle.woven_calls.specs.Laws.Forms.{has_meaning, all_pass}
 use Rattle.woven_calls.specs.Laws.AspectClass.{advice_reference}
 use Rattle.woven_calls.specs.Laws.Places.{Written, IsCarried}
 use Rattle.woven_calls.specs.Laws.Lookups.{IsCarriedCode, IsCarriedMember, IsCarriedClass, behaves}
 
 -- ---- what the form says
-
-is_there : {X : Type 0} (test : X → Bool) (o : Option X) → is_some_that test o ≡ true → (x : X) × (o ≡ Some x) × (test x ≡ true)
-is_there test None h = let apart : false ≡ true = h in absurd cc
-is_there test (Some x) h = (x, refl, h)
 
 -- the aspect's name is an identifier, and its text printable
 aspect_form : (a : FirstAspect) → IsTrue (is_first_aspect a) → IsTrue (is_identifier a.name) × IsTrue (is_printable_text a.text)
