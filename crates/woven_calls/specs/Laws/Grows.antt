@@ -74,8 +74,9 @@ failing_still p q f (x ∷ xs) e = go (failing_still p q f xs) (p x) refl e
 module _ (pool more : List PoolEntry) (h : Extends pool more) where
   -- ---- what indices stand for
 
-  text_still : (test : List ℕ → Bool) (index : ℕ) → Still (is_some_that test (text_at pool index)) (is_some_that test (text_at more index))
-  text_still test index = some_still test (text_at pool index) (text_at more index) (text_kept pool more h index)
+  -- a text that passes a test still does
+  pub pool_grows-text : (test : List ℕ → Bool) (index : ℕ) → Still (is_some_that test (text_at pool index)) (is_some_that test (text_at more index))
+  pool_grows-text test index = some_still test (text_at pool index) (text_at more index) (text_kept pool more h index)
 
   entry_still : (test : PoolEntry → Bool) (index : ℕ) → Still (is_some_that test (entry_at pool index)) (is_some_that test (entry_at more index))
   entry_still test index = some_still test (entry_at pool index) (entry_at more index) (h index)
@@ -96,7 +97,7 @@ module _ (pool more : List PoolEntry) (h : Extends pool more) where
   class_or_none index = or_still (index == 0) (is_class_index pool index) (is_class_index more index) (class_there index)
 
   name_still : (index : ℕ) → Still (is_name_index pool index) (is_name_index more index)
-  name_still index = text_still is_member_name index
+  name_still index = pool_grows-text is_member_name index
 
   name_or_none : (index : ℕ) → Still (is_name_or_none pool index) (is_name_or_none more index)
   name_or_none index = or_still (index == 0) (is_name_index pool index) (is_name_index more index) (name_still index)
@@ -107,12 +108,12 @@ module _ (pool more : List PoolEntry) (h : Extends pool more) where
   member_still test class member = and_still _ _ _ _ (class_there class) (named_still test member)
 
   pub pool_grows-entry : (e : PoolEntry) → Still (entry_is_sound pool e) (entry_is_sound more e)
-  pool_grows-entry (entry.Class name) s = text_still is_internal_name name s
+  pool_grows-entry (entry.Class name) s = pool_grows-text is_internal_name name s
   pool_grows-entry (entry.String text) s = text_there text s
   pool_grows-entry (entry.Fieldref class member) s = member_still of_field class member s
   pool_grows-entry (entry.Methodref class member) s = member_still of_method class member s
   pool_grows-entry (entry.InterfaceMethodref class member) s = member_still of_method class member s
-  pool_grows-entry (entry.NameAndType name descriptor) s = and_still _ _ _ _ (text_still is_member_name name) (text_still is_descriptor descriptor) s
+  pool_grows-entry (entry.NameAndType name descriptor) s = and_still _ _ _ _ (pool_grows-text is_member_name name) (pool_grows-text is_descriptor descriptor) s
   pool_grows-entry _ s = s
 
   -- ---- code
@@ -146,7 +147,7 @@ module _ (pool more : List PoolEntry) (h : Extends pool more) where
       go false is e = absurd cc
 
   variables_still : (r : VariableRow) → Still (variable_is_sound pool r) (variable_is_sound more r)
-  variables_still r = and_still _ _ _ _ (name_still r.name) (text_still is_field_descriptor r.descriptor)
+  variables_still r = and_still _ _ _ _ (name_still r.name) (pool_grows-text is_field_descriptor r.descriptor)
 
   variable_types_still : (r : VariableRow) → Still (variable_type_is_sound pool r) (variable_type_is_sound more r)
   variable_types_still r = and_still _ _ _ _ (name_still r.name) (text_there r.descriptor)
@@ -157,19 +158,19 @@ module _ (pool more : List PoolEntry) (h : Extends pool more) where
   code_content_still _ s = s
 
   code_attribute_still : (a : CodeAttribute) → Still (code_attribute_is_sound pool a) (code_attribute_is_sound more a)
-  code_attribute_still a = and_still _ _ _ _ (text_still (λ name. is_of_code_kind (kind_in_code name) a.content) a.name) (code_content_still a.content)
+  code_attribute_still a = and_still _ _ _ _ (pool_grows-text (λ name. is_of_code_kind (kind_in_code name) a.content) a.name) (code_content_still a.content)
 
-  -- the exception table and the attributes of some code
-  pub pool_grows-code_parts : (c : CodeAttr) → Still (list_all (λ (e : ExceptionEntry). is_class_or_none pool e.catch_type) c.entries && list_all (code_attribute_is_sound pool) c.attributes)
-      (list_all (λ (e : ExceptionEntry). is_class_or_none more e.catch_type) c.entries && list_all (code_attribute_is_sound more) c.attributes)
-  pool_grows-code_parts c =
-      and_still _ _ _ _ (all_still (λ (e : ExceptionEntry). is_class_or_none pool e.catch_type) (λ (e : ExceptionEntry). is_class_or_none more e.catch_type) c.entries (λ e. class_or_none e.catch_type))
-      (all_still (code_attribute_is_sound pool) (code_attribute_is_sound more) c.attributes code_attribute_still)
+  -- the exception table of some code
+  pub pool_grows-handlers : (entries : List ExceptionEntry) → Still (list_all (λ (e : ExceptionEntry). is_class_or_none pool e.catch_type) entries) (list_all (λ (e : ExceptionEntry). is_class_or_none more e.catch_type) entries)
+  pool_grows-handlers entries = all_still (λ (e : ExceptionEntry). is_class_or_none pool e.catch_type) (λ (e : ExceptionEntry). is_class_or_none more e.catch_type) entries (λ e. class_or_none e.catch_type)
+
+  -- its attributes
+  pub pool_grows-code_attributes : (attributes : List CodeAttribute) → Still (list_all (code_attribute_is_sound pool) attributes) (list_all (code_attribute_is_sound more) attributes)
+  pool_grows-code_attributes attributes = all_still (code_attribute_is_sound pool) (code_attribute_is_sound more) attributes code_attribute_still
 
   pub pool_grows-code : (major : ℕ) (c : CodeAttr) → Still (code_is_sound major pool c) (code_is_sound major more c)
   pool_grows-code major c =
-      and_still _ _ _ _ (all_still (λ (e : ExceptionEntry). is_class_or_none pool e.catch_type) (λ (e : ExceptionEntry). is_class_or_none more e.catch_type) c.entries (λ e. class_or_none e.catch_type))
-      (and_still _ _ _ _ (all_still (code_attribute_is_sound pool) (code_attribute_is_sound more) c.attributes code_attribute_still)
+      and_still _ _ _ _ (pool_grows-handlers c.entries) (and_still _ _ _ _ (pool_grows-code_attributes c.attributes)
       (λ (e : is_none (code_fault major pool c) ≡ true). let none : is_none (code_fault major more c) ≡ true = ap is_none (pool_grows-fault major c (is_no (code_fault major pool c) e)) in none))
 
   -- ---- attributes and members
@@ -193,23 +194,18 @@ module _ (pool more : List PoolEntry) (h : Extends pool more) where
       let rest = and_parts (test a.content) (attributes_agree kind_in test pool (cons_option (text_at pool a.name) earlier) attributes) first.1 in
       let name = is_there of_kind (text_at pool a.name) first.0 in
       let same : text_at more a.name ≡ text_at pool a.name = text_kept pool more h a.name name.0 name.1 ∙ sym name.1 in
-      and_from (is_some_that of_kind (text_at more a.name)) (test' a.content && attributes_agree kind_in test' more (cons_option (text_at more a.name) earlier) attributes) (text_still of_kind a.name first.0)
+      and_from (is_some_that of_kind (text_at more a.name)) (test' a.content && attributes_agree kind_in test' more (cons_option (text_at more a.name) earlier) attributes) (pool_grows-text of_kind a.name first.0)
       (and_from (test' a.content) (attributes_agree kind_in test' more (cons_option (text_at more a.name) earlier) attributes) (f a.content rest.0)
       (ap (λ (o : Option (List ℕ)). attributes_agree kind_in test' more (cons_option o earlier) attributes) same ∙ pool_grows-attributes kind_in test test' f (cons_option (text_at pool a.name) earlier) attributes rest.1))
 
   pub pool_grows-field : (major : ℕ) (m : Member) → Still (field_is_sound major pool m) (field_is_sound major more m)
   pool_grows-field major m =
-      and_still _ _ _ _ (name_still m.name) (and_still _ _ _ _ (text_still is_field_descriptor m.descriptor)
+      and_still _ _ _ _ (name_still m.name) (and_still _ _ _ _ (pool_grows-text is_field_descriptor m.descriptor)
       (pool_grows-attributes kind_in_field (content_is_sound major pool) (content_is_sound major more) (pool_grows-content major) [] m.attributes))
-
-  -- a method, its attributes aside
-  pub pool_grows-method_type : (m : Member) → Still (is_name_index pool m.name && is_some_that (is_method_descriptor_with (receiver_slots m.flags.0)) (text_at pool m.descriptor))
-      (is_name_index more m.name && is_some_that (is_method_descriptor_with (receiver_slots m.flags.0)) (text_at more m.descriptor))
-  pool_grows-method_type m = and_still _ _ _ _ (name_still m.name) (text_still (is_method_descriptor_with (receiver_slots m.flags.0)) m.descriptor)
 
   pub pool_grows-method : (major : ℕ) (m : Member) → Still (method_is_sound major pool m) (method_is_sound major more m)
   pool_grows-method major m =
-      and_still _ _ _ _ (name_still m.name) (and_still _ _ _ _ (text_still (is_method_descriptor_with (receiver_slots m.flags.0)) m.descriptor)
+      and_still _ _ _ _ (name_still m.name) (and_still _ _ _ _ (pool_grows-text (is_method_descriptor_with (receiver_slots m.flags.0)) m.descriptor)
       (pool_grows-attributes kind_in_method (content_is_sound major pool) (content_is_sound major more) (pool_grows-content major) [] m.attributes))
 
 -- ---- classes

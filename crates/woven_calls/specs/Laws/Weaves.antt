@@ -4,7 +4,6 @@ use Rattle.std.specs.List.{list_all, AllByRecursion, AllZip}
 use Rattle.std.proofs.lemmas.Bool.{and_parts, ltb-true}
 use Rattle.opcode_table.specs.declared.insn.Insn.{Insn}
 use Rattle.opcode_table.specs.declared.insn.Insn.TheVariants as insn
-use Rattle.opcode_table.specs.Table.{opcode}
 use Rattle.opcode_table.specs.Spelling.{spelling, IsInsn, IsSingle}
 use Rattle.class_file.specs.declared.pool.PoolEntry.{PoolEntry}
 use Rattle.class_file.specs.declared.types.ClassFile.{ClassFile}
@@ -23,7 +22,7 @@ use Rattle.jp_model.specs.JoinPoints.{chain_of}
 use Rattle.jp_model.specs.Classes.{named_type, when_no_parameters, operation}
 use Rattle.jp_model.specs.Headline.{AreApart, Behaves}
 use Rattle.woven_calls.specs.Woven.{is_empty, unless, is_unadvised, woven_insn, IsWovenCode, call_entries, call_index, with_code, IsWovenMethod, IsWovenClass, IsUnadvisedCode, IsUnadvisedMethod, IsUnadvised, IsWovenOrKept, Woven, Kept, aspect_class}
-use Rattle.woven_calls.specs.Laws.Pools.{Extends, extends_append, extends_same, text_kept, class_kept, member_kept, call_names}
+use Rattle.woven_calls.specs.Laws.Pools.{Extends, extends_append, extends_same, text_kept, class_kept, member_kept, call_names, call_is_insn}
 use Rattle.woven_calls.specs.Laws.Grows.{is_there}
 use Rattle.woven_calls.specs.Laws.Forms.{has_meaning, all_pass}
 use Rattle.woven_calls.specs.Laws.AspectClass.{advice_reference}
@@ -87,15 +86,11 @@ module _ (a : FirstAspect) (own : List ℕ) (methods : List (List ℕ)) (pool : 
   abbrev longer : List PoolEntry
   longer = pool ++ call_entries pool a
 
-  call_fits : IsInsn (insn.Pool 184 (call_index pool))
-  unfolding opcode
-  call_fits = omega (arith, short)
-
   woven_as : (chain : List Advice) (i : Insn) → Written longer (advice_reference a) chain i (unless (is_empty chain) (spelling (insn.Pool 184 (call_index pool))) ++ spelling i)
   woven_as [] i = refl
   woven_as (b ∷ rest) i = record {
     call = insn.Pool 184 (call_index pool);
-    insn = call_fits;
+    insn = call_is_insn pool short;
     single = tt;
     means = ap (option_and_then when_no_parameters) (call_names pool a);
     spelled = refl;
