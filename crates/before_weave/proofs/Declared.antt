@@ -1,16 +1,15 @@
 -- What the written class keeps of the input class.
-use Rattle.std.proofs.Common.{◌≡◌, ℕ, zero, suc, Bool, true, false, not, ◌&&◌, List, [], ◌∷◌, ◌++◌, length, take, map, Option, Some, None, refl, sym, ap, subst, ◌∙◌, arith}
-use Rattle.std.specs.Prelude.{codes, slice_get, option_and_then, ◌==◌}
+use Rattle.std.proofs.Common.{◌≡◌, ℕ, zero, suc, Bool, true, false, not, ◌&&◌, List, [], ◌∷◌, ◌++◌, length, take, map, Option, Some, refl, sym, ap, subst, ◌∙◌, arith}
+use Rattle.std.specs.Prelude.{codes, ◌==◌}
 use Rattle.std.specs.Str.{bytes_eq}
 use Rattle.std.specs.List.{list_all, filter, starts_with, AllZip}
 use Rattle.std.proofs.lemmas.Bool.{and_parts, and_from, cond-true, false_from_ne_true, true≢false}
 use Rattle.std.proofs.lemmas.Slice.Eq.{bytes_eq-Decides}
 use Rattle.class_file.specs.declared.pool.PoolEntry.{PoolEntry}
-use Rattle.class_file.specs.declared.pool.PoolEntry.TheVariants as entry
 use Rattle.class_file.specs.declared.types.ClassFile.{ClassFile}
 use Rattle.class_file.specs.declared.types.Member.{Member}
 use Rattle.class_file.specs.declared.types.Attribute.{Attribute}
-use Rattle.class_file.specs.Pool.{entry_at, as_text, text_at, as_class, class_at, this_name, super_name}
+use Rattle.class_file.specs.Pool.{text_at, this_name, super_name}
 use Rattle.class_file.specs.Sound.{is_some_that}
 use Rattle.class_file.specs.FirstForm.{is_first_form, is_form_method, is_identifier, begins_with_letter, is_letter_or_digit, is_reserved, method_names, own_name, object_class}
 use Rattle.jp_model.specs.declared.first_aspect.FirstAspect.{FirstAspect}

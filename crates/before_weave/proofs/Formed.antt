@@ -1,5 +1,5 @@
 -- The written classes are well-formed.
-use Rattle.std.proofs.Common.{◌≡◌, ℕ, ◌<◌, ◌≤◌, Bool, true, false, ◌&&◌, leb, ltb, List, [], ◌∷◌, ◌++◌, length, Option, Some, None, refl, sym, ap, ◌∙◌, append_assoc, arith}
+use Rattle.std.proofs.Common.{◌≡◌, ℕ, ◌<◌, Bool, true, false, ◌&&◌, leb, ltb, List, [], ◌∷◌, ◌++◌, length, None, refl, sym, ap, ◌∙◌, append_assoc, arith}
 use Rattle.std.specs.Prelude.{is_none}
 use Rattle.std.specs.List.{list_all, flat_map, AllZip, AllByRecursion}
 use Rattle.std.proofs.lemmas.Bool.{le-leb, lt-ltb, and_parts, and_from}
@@ -12,21 +12,20 @@ use Rattle.class_file.specs.declared.pool.PoolEntry.{PoolEntry}
 use Rattle.class_file.specs.declared.types.ClassFile.{ClassFile}
 use Rattle.class_file.specs.declared.types.Member.{Member}
 use Rattle.class_file.specs.declared.types.Attribute.{Attribute}
-use Rattle.class_file.specs.declared.types.Content.{Content}
 use Rattle.class_file.specs.declared.types.Content.TheVariants as content
 use Rattle.class_file.specs.declared.types.CodeAttr.{CodeAttr}
 use Rattle.class_file.specs.declared.types.ExceptionEntry.{ExceptionEntry}
 use Rattle.class_file.specs.Text.{is_class_name, is_member_name, is_method_descriptor_with}
 use Rattle.class_file.specs.Pool.{text_at, this_name}
 use Rattle.class_file.specs.Sound.{is_some_that}
-use Rattle.class_file.specs.Code.{has_operand, is_method_entry, is_sized, code_fault}
+use Rattle.class_file.specs.Code.{has_operand, is_method_entry, code_fault}
 use Rattle.class_file.specs.WellFormed.{Kind, kind_in_method, is_of_kind, kind_after, attributes_agree, is_class_or_none, code_attribute_is_sound, code_is_sound, content_is_sound, is_name_index, receiver_slots, method_is_sound, is_well_formed}
 use Rattle.class_file.specs.FirstForm.{is_first_form, is_form_insn, insns_pass, is_plain_code, has_form_code, is_form_method, method_names, own_name}
 use Rattle.jp_model.specs.declared.first_aspect.FirstAspect.{FirstAspect}
 use Rattle.jp_model.specs.AspectText.{is_first_aspect}
 use Rattle.woven_calls.specs.Woven.{unless, is_unadvised, woven_insn, with_code, IsWovenCode, IsWovenMethod, call_entries, call_index, aspect_class}
 use Rattle.woven_calls.specs.Laws.Pools.{Extends, extends_append, text_kept, slot, call_is_insn}
-use Rattle.woven_calls.specs.Laws.Grows.{is_there, is_no, IsFormed, well_formed_parts, well_formed_from, pool_grows-text, pool_grows-operand, pool_grows-handlers, pool_grows-code_attributes, pool_grows-class}
+use Rattle.woven_calls.specs.Laws.Grows.{is_there, is_no, well_formed_parts, well_formed_from, pool_grows-text, pool_grows-operand, pool_grows-handlers, pool_grows-code_attributes, pool_grows-class}
 use Rattle.woven_calls.specs.Laws.Forms.{all_pass}
 use Rattle.woven_calls.specs.Laws.StraightCode.{leads_on, straight_is_sound, operands_of}
 use Rattle.before_weave.specs.Weaving.{with_calls}

@@ -1,6 +1,6 @@
 -- The pools of the written classes are sound.
-use Rattle.std.proofs.Common.{◌≡◌, ℕ, suc, ◌+◌, ◌<◌, ◌≤◌, Bool, true, false, eqb, ltb, leb, not, ◌&&◌, List, [], ◌∷◌, ◌++◌, length, Option, Some, None, refl, sym, ap, ◌∙◌, arith, ⊎_elim}
-use Rattle.std.specs.Prelude.{codes, slice_get, option_and_then, is_some}
+use Rattle.std.proofs.Common.{◌≡◌, ℕ, ◌+◌, ◌<◌, ◌≤◌, Bool, true, false, eqb, ltb, leb, not, ◌&&◌, List, [], ◌∷◌, ◌++◌, length, Some, refl, sym, ap, ◌∙◌, arith, ⊎_elim}
+use Rattle.std.specs.Prelude.{codes, is_some}
 use Rattle.std.specs.List.{list_all}
 use Rattle.std.proofs.lemmas.Bool.{eqb-true, ltb-true, leb-true, lt-ltb, le-leb, and_parts, and_from, or_cases, or_left, not_from_false, false_from_ne_true, true≢false}
 use Rattle.std.proofs.lemmas.List.Folds.{list_all-append}
@@ -8,9 +8,9 @@ use Rattle.class_file.specs.declared.pool.PoolEntry.{PoolEntry}
 use Rattle.class_file.specs.declared.pool.PoolEntry.TheVariants as entry
 use Rattle.class_file.specs.declared.types.ClassFile.{ClassFile}
 use Rattle.class_file.specs.Text.{within, begun, utf8_from, is_utf8, is_paired, is_name_byte, is_name_text, has_parts, is_class_name, is_array_descriptor, is_internal_name, is_member_name}
-use Rattle.class_file.specs.Pool.{NamedType, entry_at, as_text, text_at, as_class, class_at, as_named_type, named_type_at}
+use Rattle.class_file.specs.Pool.{text_at, class_at, named_type_at}
 use Rattle.class_file.specs.Range.{pool_fits}
-use Rattle.class_file.specs.Sound.{is_some_that, is_wide, is_second, seconds_follow, is_descriptor, of_field, of_method, entry_is_sound, entries_agree, pool_is_sound}
+use Rattle.class_file.specs.Sound.{is_some_that, is_wide, is_second, seconds_follow, is_descriptor, of_method, entry_is_sound, entries_agree, pool_is_sound}
 use Rattle.class_file.specs.FirstForm.{is_first_form, is_letter, is_digit, is_letter_or_digit, is_printable, is_reserved, is_identifier, begins_with_letter}
 use Rattle.jp_model.specs.declared.first_aspect.FirstAspect.{FirstAspect}
 use Rattle.jp_model.specs.AspectText.{is_first_aspect}

@@ -9,7 +9,7 @@ use Rattle.class_file.specs.WellFormed.{is_well_formed}
 use Rattle.class_file.specs.FirstForm.{is_first_form}
 use Rattle.jp_model.specs.declared.first_aspect.FirstAspect.{FirstAspect}
 use Rattle.jp_model.specs.AspectText.{is_first_aspect, aspect_of}
-use Rattle.jp_model.specs.Headline.{AreApart, KeepsUntouched, KeepsDeclared, IsAspectClass, IsWritten, IsWeaving}
+use Rattle.jp_model.specs.Headline.{AreApart, KeepsUntouched, KeepsDeclared, IsWritten, IsWeaving}
 use Rattle.woven_calls.specs.Woven.{IsWovenOrKept, Woven as IsWoven, Kept as IsKept, aspect_class}
 use Rattle.woven_calls.specs.Laws.{woven_behaves}
 use Rattle.before_weave.specs.Weaving.{IsClassWeaving, Woven, Kept}

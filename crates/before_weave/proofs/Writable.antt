@@ -1,10 +1,10 @@
 -- The written class can be written.
-use Rattle.std.proofs.Common.{◌≡◌, ℕ, ◌+◌, ◌*◌, ◌<◌, ◌≤◌, Bool, true, false, eqb, ltb, leb, not, ◌&&◌, List, [], ◌∷◌, ◌++◌, length, length-append, refl, sym, ap, ◌∙◌, arith, ⊎_elim}
+use Rattle.std.proofs.Common.{◌≡◌, ℕ, ◌+◌, ◌*◌, ◌<◌, ◌≤◌, Bool, true, false, ltb, leb, not, ◌&&◌, List, [], ◌∷◌, ◌++◌, length, length-append, refl, sym, ap, ◌∙◌, arith, ⊎_elim}
 use Rattle.std.specs.Prelude.{codes, ◌/◌, ◌%◌}
 use Rattle.std.specs.Str.{bytes_eq}
 use Rattle.std.specs.List.{list_all, flat_map, AllZip, AllByRecursion}
 use Rattle.std.specs.Int.{w16, to_be_bytes}
-use Rattle.std.proofs.lemmas.Bool.{eqb-true, ltb-true, leb-true, lt-ltb, and_parts, and_from, or_cases}
+use Rattle.std.proofs.lemmas.Bool.{ltb-true, leb-true, lt-ltb, and_parts, and_from, or_cases}
 use Rattle.std.proofs.lemmas.List.Folds.{list_all-append}
 use Rattle.std.proofs.lemmas.List.Elements.{length_all_zip}
 use Rattle.opcode_table.specs.declared.insn.Insn.{Insn}
@@ -21,7 +21,7 @@ use Rattle.class_file.specs.Pool.{this_name}
 use Rattle.class_file.specs.Text.{within}
 use Rattle.class_file.specs.Range.{is_u1, is_u2, is_u4, are_bytes, counted_fits, entry_fits, pool_fits, exception_fits, code_attribute_fits, code_fits, attribute_fits, member_fits, is_writable}
 use Rattle.class_file.specs.Spelling.{spelled_content}
-use Rattle.class_file.specs.FirstForm.{is_first_form, is_letter, is_digit, is_letter_or_digit, is_printable, is_printable_text, is_reserved, is_identifier, begins_with_letter, is_plain_code, is_form_insn, is_form_method, is_form_attribute, insns_pass, is_single, is_text, method_names, own_name}
+use Rattle.class_file.specs.FirstForm.{is_first_form, is_letter, is_digit, is_letter_or_digit, is_printable, is_printable_text, is_reserved, is_identifier, begins_with_letter, is_plain_code, is_form_insn, is_form_method, insns_pass, method_names, own_name}
 use Rattle.jp_model.specs.declared.first_aspect.FirstAspect.{FirstAspect}
 use Rattle.jp_model.specs.AspectText.{is_first_aspect, is_short_identifier, is_literal, is_unescaped, aspect_of}
 use Rattle.jp_model.specs.Headline.{IsAspectClass}

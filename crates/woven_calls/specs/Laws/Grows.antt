@@ -20,7 +20,7 @@ use Rattle.class_file.specs.declared.types.ExceptionEntry.{ExceptionEntry}
 use Rattle.class_file.specs.declared.types.InnerClass.{InnerClass}
 use Rattle.class_file.specs.declared.types.VariableRow.{VariableRow}
 use Rattle.class_file.specs.Text.{within, is_class_name, is_internal_name, is_member_name, is_field_descriptor, is_method_descriptor_with}
-use Rattle.class_file.specs.Pool.{NamedType, entry_at, text_at, class_at, named_type_at, this_name, super_name}
+use Rattle.class_file.specs.Pool.{NamedType, entry_at, text_at, class_at, named_type_at}
 use Rattle.class_file.specs.Range.{is_writable}
 use Rattle.class_file.specs.Sound.{is_some_that, is_descriptor, of_field, of_method, entry_is_sound, pool_is_sound}
 use Rattle.class_file.specs.Code.{Placed, is_narrow_constant, is_wide_constant, is_field_entry, is_method_entry, is_interface_entry, is_class_entry, is_element_name, has_dimensions, has_operand, or_else, first_failing, leads_well, first_stray, fault_among, is_sized, instructions, code_fault}

@@ -1,18 +1,16 @@
 -- Code that is one instruction after the other, without branches: its instructions are those that it
 -- spells, and it is without a fault where each has an operand of its kind.
-use Rattle.std.proofs.Common.{◌≡◌, ℕ, zero, suc, ◌+◌, ◌-◌, ◌≤◌, ◌==◌, Bool, true, false, if◌then◌else◌, List, [], ◌∷◌, ◌++◌, length, drop, flat_map, Option, Some, None, Result, Ok, Err, refl, sym, ap, subst, ◌∙◌, arith}
+use Rattle.std.proofs.Common.{◌≡◌, ℕ, zero, suc, ◌+◌, ◌≤◌, ◌==◌, Bool, true, false, if◌then◌else◌, List, [], ◌∷◌, length, drop, flat_map, Option, Some, None, Ok, refl, sym, ap, ◌∙◌, arith}
 use Rattle.std.specs.List.{list_all, AllByRecursion}
-use Rattle.std.proofs.lemmas.Bool.{cond-true, cond-false, eq-eqb}
+use Rattle.std.proofs.lemmas.Bool.{cond-true, eq-eqb}
 use Rattle.std.proofs.lemmas.List.{length-drop, length-append}
 use Rattle.opcode_table.specs.declared.insn.Insn.{Insn}
 use Rattle.opcode_table.specs.declared.insn.Insn.TheVariants as insn
-use Rattle.opcode_table.specs.declared.fault.CodeFault.{CodeFault}
-use Rattle.opcode_table.specs.Decoding.{Decoded, decoded}
+use Rattle.opcode_table.specs.Decoding.{decoded}
 use Rattle.opcode_table.specs.Spelling.{spelling, IsInsn, IsSingle}
 use Rattle.opcode_table.specs.DecodedAgain.{decoded_where_spelled}
 use Rattle.class_file.specs.declared.pool.PoolEntry.{PoolEntry}
 use Rattle.class_file.specs.declared.types.CodeAttr.{CodeAttr}
-use Rattle.class_file.specs.declared.types.ExceptionEntry.{ExceptionEntry}
 use Rattle.class_file.specs.Code.{Placed, in_front, placed, instructions_from, instructions, offsets, has_operand, or_else, first_failing, leads_well, first_stray, fault_among, is_sized, code_fault}
 use Rattle.woven_calls.specs.Laws.Forms.{drop_behind, ended_not}
 

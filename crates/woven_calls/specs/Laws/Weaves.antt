@@ -1,7 +1,7 @@
 -- Woven classes carry out the advice, and so do classes without a place for it as they were.
-use Rattle.std.proofs.Common.{◌≡◌, ◌≢◌, ℕ, ◌<◌, ◌==◌, Bool, true, false, not, ◌&&◌, nat_lt, nat_le, bytes_eq, IsTrue, List, [], ◌∷◌, ◌++◌, length, map, Option, Some, None, refl, sym, ap, ◌∙◌, subst, codes, option_and_then, arith}
+use Rattle.std.proofs.Common.{◌≡◌, ◌≢◌, ℕ, ◌<◌, true, false, not, ◌&&◌, nat_le, bytes_eq, IsTrue, List, [], ◌∷◌, ◌++◌, length, map, Some, refl, sym, ap, ◌∙◌, subst, codes, option_and_then}
 use Rattle.std.specs.List.{list_all, AllByRecursion, AllZip}
-use Rattle.std.proofs.lemmas.Bool.{and_parts, ltb-true}
+use Rattle.std.proofs.lemmas.Bool.{and_parts}
 use Rattle.opcode_table.specs.declared.insn.Insn.{Insn}
 use Rattle.opcode_table.specs.declared.insn.Insn.TheVariants as insn
 use Rattle.opcode_table.specs.Spelling.{spelling, IsInsn, IsSingle}
