@@ -15,16 +15,16 @@ use Rattle.class_file.specs.FirstForm.{is_first_form, is_form_method, is_identif
 use Rattle.jp_model.specs.declared.first_aspect.FirstAspect.{FirstAspect}
 use Rattle.jp_model.specs.Headline.{is_code, declared_member, declared_members, has_within, is_generated, KeepsDeclared}
 use Rattle.woven_calls.specs.Woven.{IsWovenMethod, call_entries, call_index}
+use Rattle.woven_calls.specs.Laws.Grows.{is_there}
 use Rattle.woven_calls.specs.Laws.Pools.{extends_append, text_kept, class_kept}
 use Rattle.before_weave.specs.Weaving.{with_calls}
 use Rattle.before_weave.proofs.Forms.{first_parts, short_parts, method_parts, form_methods}
-use Rattle.before_weave.proofs.Untouched.{some_of}
 
 -- ---- the pool, longer
 
 pub same_name : (a : FirstAspect) (c : ClassFile) (methods : List Member) → is_first_form c ≡ true → this_name (with_calls a c methods) ≡ this_name c
 same_name a c methods h =
-    let own = some_of is_identifier (this_name c) (and_parts (is_some_that is_identifier (this_name c)) (is_some_that (bytes_eq object_class) (super_name c)) (first_parts c h).names).0 in
+    let own = is_there is_identifier (this_name c) (and_parts (is_some_that is_identifier (this_name c)) (is_some_that (bytes_eq object_class) (super_name c)) (first_parts c h).names).0 in
     class_kept c.pool (c.pool ++ call_entries c.pool a) (extends_append c.pool (call_entries c.pool a)) c.this_class own.0 own.1 ∙ sym own.1
 
 -- ---- an identifier is no generated name
@@ -75,7 +75,7 @@ module _ (pool more : List PoolEntry) (own : List ℕ) (names : List (List ℕ))
   plain_old [] h = refl
   plain_old (o ∷ olds) h =
       let both = and_parts (is_form_method pool own names o) (list_all (is_form_method pool own names) olds) h in
-      let name = some_of is_identifier (text_at pool o.name) (method_parts pool own names o both.0).name in
+      let name = is_there is_identifier (text_at pool o.name) (method_parts pool own names o both.0).name in
       and_from (is_plain pool o) (list_all (is_plain pool) olds) (plain_name (text_at pool o.name) name.0 name.1 name.2) (plain_old olds both.1)
 
   plain_new : (olds news : List Member) → list_all (is_form_method pool own names) olds ≡ true → AllZip (IsWovenMethod pool a index) olds news → list_all (is_plain (pool ++ more)) news ≡ true
@@ -84,7 +84,7 @@ module _ (pool more : List PoolEntry) (own : List ℕ) (names : List (List ℕ))
   plain_new (o ∷ olds) [] h z = absurd z
   plain_new (o ∷ olds) (n ∷ news) h z =
       let both = and_parts (is_form_method pool own names o) (list_all (is_form_method pool own names) olds) h in
-      let name = some_of is_identifier (text_at pool o.name) (method_parts pool own names o both.0).name in
+      let name = is_there is_identifier (text_at pool o.name) (method_parts pool own names o both.0).name in
       let kept : text_at (pool ++ more) n.name ≡ Some name.0 = ap (λ (m : Member). text_at (pool ++ more) m.name) z.0.after ∙ text_kept pool (pool ++ more) (extends_append pool more) o.name name.0 name.1 in
       and_from (is_plain (pool ++ more) n) (list_all (is_plain (pool ++ more)) news) (plain_name (text_at (pool ++ more) n.name) name.0 kept name.2) (plain_new olds news both.1 z.1)
 

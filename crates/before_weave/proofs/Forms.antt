@@ -22,11 +22,8 @@ use Rattle.class_file.specs.FirstForm.{is_first_form, has_short_lists, has_form_
 use Rattle.class_file.specs.FirstFormLaws.{well_formed_is_writable, well_formed_is_sound}
 use Rattle.class_file.specs.WellFormed.{is_well_formed}
 use Rattle.woven_calls.specs.Woven.{with_code}
+use Rattle.woven_calls.specs.Laws.Grows.{all_still}
 use Rattle.before_weave.specs.Walk.{has_no_table, is_straight, is_straight_content, is_straight_method}
-
-pub all_weaker : {X : Type 0} (p q : X → Bool) (xs : List X) → ((x : X) → p x ≡ true → q x ≡ true) → list_all p xs ≡ true → list_all q xs ≡ true
-all_weaker p q [] h e = refl
-all_weaker p q (x ∷ xs) h e = let both = and_parts (p x) (list_all p xs) e in and_from (q x) (list_all q xs) (h x both.0) (all_weaker p q xs h both.1)
 
 -- ---- the parts of the form of a class
 
@@ -143,6 +140,6 @@ straight_attributes pool own methods (a ∷ b ∷ rest) h = absurd cc
 
 pub straight_methods : (c : ClassFile) → is_first_form c ≡ true → list_all is_straight_method c.methods ≡ true
 straight_methods c h =
-    all_weaker (is_form_method c.pool (own_name (this_name c)) (method_names c)) is_straight_method c.methods
+    all_still (is_form_method c.pool (own_name (this_name c)) (method_names c)) is_straight_method c.methods
     (λ m e. straight_attributes c.pool (own_name (this_name c)) (method_names c) m.attributes (method_parts c.pool (own_name (this_name c)) (method_names c) m e).single)
     (form_methods c h)

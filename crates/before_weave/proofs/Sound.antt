@@ -16,8 +16,8 @@ use Rattle.jp_model.specs.declared.first_aspect.FirstAspect.{FirstAspect}
 use Rattle.jp_model.specs.AspectText.{is_first_aspect}
 use Rattle.woven_calls.specs.Woven.{advice_name, call_entries, aspect_pool}
 use Rattle.woven_calls.specs.Laws.Pools.{extends_append, text_slot, call_class, call_type}
-use Rattle.woven_calls.specs.Laws.Grows.{pool_grows-entry}
-use Rattle.before_weave.proofs.Forms.{all_weaker, first_parts, short_parts}
+use Rattle.woven_calls.specs.Laws.Grows.{all_still, pool_grows-entry}
+use Rattle.before_weave.proofs.Forms.{first_parts, short_parts}
 use Rattle.before_weave.proofs.Writable.{aspect_parts, pool_still_fits, aspect_pool_fits}
 
 -- ---- texts of ASCII
@@ -47,7 +47,7 @@ letter_ascii b h =
     (λ d. ascii_within 48 58 b (omega arith) (omega arith) d) (or_cases (is_letter b) (is_digit b) h)
 
 pub printable_utf8 : (text : List ℕ) → list_all is_printable text ≡ true → is_utf8 text ≡ true
-printable_utf8 text h = utf8_ascii text (all_weaker is_printable is_ascii text (λ b e. ascii_within 32 127 b (omega arith) (omega arith) e) h)
+printable_utf8 text h = utf8_ascii text (all_still is_printable is_ascii text (λ b e. ascii_within 32 127 b (omega arith) (omega arith) e) h)
 
 -- ---- identifiers are names
 
@@ -86,7 +86,7 @@ pub identifier_utf8 : (name : List ℕ) → is_identifier name ≡ true → is_u
 identifier_utf8 name h =
     let p = and_parts (begins_with_letter name) (list_all is_letter_or_digit name && not (is_reserved name)) h in
     let q = and_parts (list_all is_letter_or_digit name) (not (is_reserved name)) p.1 in
-    utf8_ascii name (all_weaker is_letter_or_digit is_ascii name letter_ascii q.0)
+    utf8_ascii name (all_still is_letter_or_digit is_ascii name letter_ascii q.0)
 
 pub identifier_class : (name : List ℕ) → is_identifier name ≡ true → is_class_name name ≡ true
 identifier_class name h =
@@ -94,7 +94,7 @@ identifier_class name h =
     let q = and_parts (list_all is_letter_or_digit name) (not (is_reserved name)) p.1 in
     and_from (is_name_text name) (has_parts true name)
     (and_from (is_utf8 name) (is_paired name && list_all is_name_byte name) (identifier_utf8 name h)
-    (and_from (is_paired name) (list_all is_name_byte name) (letters_paired name q.0) (all_weaker is_letter_or_digit is_name_byte name letter_names q.0)))
+    (and_from (is_paired name) (list_all is_name_byte name) (letters_paired name q.0) (all_still is_letter_or_digit is_name_byte name letter_names q.0)))
     (some_parts name p.0 q.0)
 
 pub identifier_internal : (name : List ℕ) → is_identifier name ≡ true → is_internal_name name ≡ true
@@ -165,7 +165,7 @@ module _ (pool : List PoolEntry) (a : FirstAspect) (first : is_first_aspect a �
       (and_from (seconds_follow false longer) (list_all (entry_is_sound longer) longer) (seconds_append false pool (call_entries pool a) agree.0 refl)
       (list_all-append (entry_is_sound longer) pool (call_entries pool a)
       ∙ and_from (list_all (entry_is_sound longer) pool) (list_all (entry_is_sound longer) (call_entries pool a))
-      (all_weaker (entry_is_sound pool) (entry_is_sound longer) pool (pool_grows-entry pool longer (extends_append pool (call_entries pool a))) agree.1) calls_sound))
+      (all_still (entry_is_sound pool) (entry_is_sound longer) pool (pool_grows-entry pool longer (extends_append pool (call_entries pool a))) agree.1) calls_sound))
 
 pub woven_sound : (a : FirstAspect) (c : ClassFile) → is_first_form c ≡ true → is_first_aspect a ≡ true → pool_is_sound (c.pool ++ call_entries c.pool a) ≡ true
 woven_sound a c h first = longer_sound c.pool a first (short_parts c h).pool (first_parts c h).sound

@@ -29,11 +29,7 @@ use Rattle.before_weave.specs.Walk.{HasCalls}
 use Rattle.before_weave.proofs.Advised.{agrees}
 use Rattle.before_weave.proofs.Forms.{MethodParts, method_parts, form_methods}
 
--- ---- a value that passes
-
-pub some_of : {X : Type 0} (test : X → Bool) (o : Option X) → is_some_that test o ≡ true → (x : X) × (o ≡ Some x) × (test x ≡ true)
-some_of test None h = absurd cc
-some_of test (Some x) h = (x, refl, h)
+-- ---- a list whose elements pass
 
 -- each element passes, also the one at k
 pub all_get : {X : Type 0} (p : X → Bool) (xs : List X) (k : ℕ) (x : X) → list_all p xs ≡ true → k < length xs → get_or xs k x ≡ x → p x ≡ true

@@ -26,9 +26,10 @@ use Rattle.jp_model.specs.declared.first_aspect.FirstAspect.{FirstAspect}
 use Rattle.jp_model.specs.AspectText.{is_first_aspect, is_short_identifier, is_literal, is_unescaped, aspect_of}
 use Rattle.jp_model.specs.Headline.{IsAspectClass}
 use Rattle.woven_calls.specs.Woven.{unless, is_unadvised, woven_insn, with_code, IsWovenCode, IsWovenMethod, call_entries, call_index, aspect_class, aspect_pool}
+use Rattle.woven_calls.specs.Laws.Grows.{all_still}
 use Rattle.before_weave.specs.Weaving.{with_calls}
 use Rattle.woven_calls.specs.Laws.StraightCode.{spelled_some}
-use Rattle.before_weave.proofs.Forms.{all_weaker, first_parts, short_parts, form_methods, form_code, PlainParts, plain_parts}
+use Rattle.before_weave.proofs.Forms.{first_parts, short_parts, form_methods, form_code, PlainParts, plain_parts}
 
 -- ---- bytes of texts
 
@@ -67,9 +68,9 @@ aspect_parts a h =
       identifier = name.0;
       printable = text.0;
       name_length = lt-ltb (length a.name) 65536 (omega arith);
-      name_bytes = all_weaker is_letter_or_digit is_u1 a.name letter_is_byte all.0;
+      name_bytes = all_still is_letter_or_digit is_u1 a.name letter_is_byte all.0;
       text_length = lt-ltb (length a.text) 65536 (omega arith);
-      text_bytes = all_weaker is_printable is_u1 a.text (λ b e. below_byte 32 127 b (omega arith) e) text.0;
+      text_bytes = all_still is_printable is_u1 a.text (λ b e. below_byte 32 127 b (omega arith) e) text.0;
     }
 
 -- ---- the pool
