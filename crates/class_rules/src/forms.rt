@@ -1,0 +1,85 @@
+//! What the texts of a constant pool may serve as.
+
+ghost use Rattle.std.specs.Prelude.{◌≡◌, is_some, IfOk};
+ghost use Rattle.class_file.specs.Text as form;
+ghost use Rattle.class_file.specs.Pool.{text_at};
+ghost use Rattle.class_file.specs.Sound.{is_some_that};
+ghost use Rattle.class_file.specs.declared.pool.PoolEntry.{PoolEntry};
+ghost use Rattle.class_rules.specs.Forms.{Judges, receiver_slots, form_of};
+
+use class_file::PoolEntry;
+use std::alloc::{AllocError, Global};
+
+/// What an entry of a pool may serve as. An entry that is no text serves as nothing.
+#[derive(Clone, Copy, Debug, PartialEq, Eq)]
+pub(crate) struct TextForm {
+    pub(crate) text: bool,
+    pub(crate) class_name: bool,
+    pub(crate) internal_name: bool,
+    pub(crate) member_name: bool,
+    pub(crate) field_descriptor: bool,
+    /// The parameters take at most 255 slots.
+    pub(crate) method_descriptor: bool,
+    /// The parameters take at most 255 slots with that of the receiver.
+    pub(crate) instance_descriptor: bool,
+}
+
+/// What each text of a constant pool may serve as: names, descriptors (JVMS 4.2, 4.3). Each text is
+/// judged once, and then each question takes constant time. An index that is 0, past the end or of
+/// another kind of entry serves as nothing.
+#[derive(Debug, Drop)]
+pub struct TextForms {
+    pub(crate) forms: Vec<TextForm>,
+}
+
+impl TextForms {
+    /// Judges the texts of the pool, in time linear in their bytes.
+    pub fn judge(alloc: Global, pool: &[PoolEntry]) -> Result<TextForms, AllocError>
+        ensures { IfOk result (λ forms. Judges forms pool.now) }
+    {
+        Err(AllocError)
+    }
+
+    /// Whether the index is that of a text.
+    pub fn is_text(&self, index: u16) -> bool
+        ensures { (pool : List PoolEntry) → Judges self.now pool → result ≡ is_some (text_at pool index) }
+    {
+        false
+    }
+
+    /// Whether the index is that of the name of a class (JVMS 4.2).
+    pub fn is_class_name(&self, index: u16) -> bool
+        ensures { (pool : List PoolEntry) → Judges self.now pool → result ≡ is_some_that form.is_class_name (text_at pool index) }
+    {
+        false
+    }
+
+    /// Whether the index is that of the name of a class or of an array descriptor (JVMS 4.4.1).
+    pub fn is_internal_name(&self, index: u16) -> bool
+        ensures { (pool : List PoolEntry) → Judges self.now pool → result ≡ is_some_that form.is_internal_name (text_at pool index) }
+    {
+        false
+    }
+
+    /// Whether the index is that of the name of a field or a method.
+    pub fn is_member_name(&self, index: u16) -> bool
+        ensures { (pool : List PoolEntry) → Judges self.now pool → result ≡ is_some_that form.is_member_name (text_at pool index) }
+    {
+        false
+    }
+
+    /// Whether the index is that of the descriptor of a field (JVMS 4.3.2).
+    pub fn is_field_descriptor(&self, index: u16) -> bool
+        ensures { (pool : List PoolEntry) → Judges self.now pool → result ≡ is_some_that form.is_field_descriptor (text_at pool index) }
+    {
+        false
+    }
+
+    /// Whether the index is that of the descriptor of a method whose parameters take at most 255
+    /// slots, with one for the receiver where there is one (JVMS 4.3.3).
+    pub fn is_method_descriptor(&self, receiver: bool, index: u16) -> bool
+        ensures { (pool : List PoolEntry) → Judges self.now pool → result ≡ is_some_that (form.is_method_descriptor_with (receiver_slots receiver)) (text_at pool index) }
+    {
+        false
+    }
+}
