@@ -1,11 +1,11 @@
 //! What the texts of a constant pool may serve as.
 
-ghost use Rattle.std.specs.Prelude.{◌≡◌, is_some, IfOk};
+ghost use Rattle.std.specs.Prelude.{◌≡◌, if◌then◌else◌, is_some, IfOk};
 ghost use Rattle.class_file.specs.Text as form;
 ghost use Rattle.class_file.specs.Pool.{text_at};
 ghost use Rattle.class_file.specs.Sound.{is_some_that};
 ghost use Rattle.class_file.specs.declared.pool.PoolEntry.{PoolEntry};
-ghost use Rattle.class_rules.specs.Forms.{Judges, receiver_slots, form_of};
+ghost use Rattle.class_rules.specs.Forms.{Judges, form_of};
 
 use class_file::PoolEntry;
 use std::alloc::{AllocError, Global};
@@ -78,7 +78,7 @@ impl TextForms {
     /// Whether the index is that of the descriptor of a method whose parameters take at most 255
     /// slots, with one for the receiver where there is one (JVMS 4.3.3).
     pub fn is_method_descriptor(&self, receiver: bool, index: u16) -> bool
-        ensures { (pool : List PoolEntry) → Judges self.now pool → result ≡ is_some_that (form.is_method_descriptor_with (receiver_slots receiver)) (text_at pool index) }
+        ensures { (pool : List PoolEntry) → Judges self.now pool → result ≡ is_some_that (form.is_method_descriptor_with (if receiver then 1 else 0)) (text_at pool index) }
     {
         false
     }
