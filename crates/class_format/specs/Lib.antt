@@ -1,2 +1,5 @@
+pub mod Readers
+pub mod PoolReading
+pub mod PartReading
 pub mod Reading
 pub mod Writing

@@ -4,6 +4,7 @@
 
 mod fault;
 mod reading;
+mod scope;
 mod writing;
 
 pub use class_file::{
