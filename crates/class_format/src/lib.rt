@@ -3,6 +3,7 @@
 #![tactic(auto)]
 
 mod fault;
+mod numbers;
 mod reading;
 mod scope;
 mod writing;
