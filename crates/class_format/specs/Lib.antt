@@ -1,5 +1,6 @@
 pub mod Gives
 pub mod Readers
+pub mod Roles
 pub mod PoolReading
 pub mod PartReading
 pub mod Reading

@@ -3,7 +3,9 @@
 #![tactic(auto)]
 
 mod fault;
+mod known;
 mod numbers;
+mod pool;
 mod reading;
 mod scope;
 mod writing;
