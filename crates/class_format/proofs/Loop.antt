@@ -5,7 +5,8 @@ use Rattle.class_format.specs.declared.fault.ClassFault.{ClassFault}
 use Rattle.class_format.specs.declared.fault.ClassFault.TheVariants.{Memory}
 use Rattle.class_format.specs.declared.scope.Scope.{Scope}
 use Rattle.class_format.specs.Gives.{Fails}
-use Rattle.class_format.specs.Readers.{◌>>=◌, Reader, times, in_turn}
+use Rattle.std.specs.Int.{w16}
+use Rattle.class_format.specs.Readers.{◌>>=◌, Reader, number, times, listed, in_turn}
 
 -- what was read before, and what is still read
 abbrev pub with_front : {X : Type 0} → List X → Result (List X × List ℕ) ClassFault → Result (List X × List ℕ) ClassFault
@@ -89,3 +90,10 @@ done {r = r} {front = front} {count = count} {i = i} {scope = scope} {bytes = by
     let k : count - i ≡ 0 = omega arith in
     let one : with_front front (times r (count - i) scope bytes) ≡ Ok (front, bytes) = rw k (ap (λ xs. Ok (xs, bytes)) (append-nil front)) in
     sym left.so_far ∙ one
+
+-- the items of a list behind their count
+pub list_begins : {X : Type 0} (r : Reader X) {count : ℕ} {scope : Scope} (bytes : List ℕ) {rest : List ℕ} → number w16 scope bytes ≡ Ok (count, rest) → AreLeft r (count - 0) [] scope rest (listed r scope bytes)
+list_begins r {count = count} {scope = scope} bytes {rest = rest} h =
+    let k : count - 0 ≡ count = omega arith in
+    let one : listed r scope bytes ≡ times r count scope rest = rw h refl in
+    record { so_far = rw (k, one) (all_front (times r count scope rest)) }

@@ -8,6 +8,7 @@ mod numbers;
 mod pool;
 mod reading;
 mod scope;
+mod tables;
 mod writing;
 
 pub use class_file::{
