@@ -3,6 +3,7 @@
 #![tactic(auto)]
 
 mod fault;
+mod kinds;
 mod known;
 mod numbers;
 mod pool;
