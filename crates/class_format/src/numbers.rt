@@ -78,3 +78,23 @@ pub(crate) fn long_bytes_at(
     let (front, rest) = rest.split_at(count);
     Ok((Items::from_slice(alloc, front)?, rest))
 }
+
+/// The content of an attribute behind its length, with its scope.
+pub(crate) fn content_at(
+    scope: Scope,
+    bytes: &[u8],
+) -> Result<((Scope, &[u8]), &[u8]), ClassFault>
+    ensures { GivesBy (λ x. ((x.0.0, x.0.1.now), x.1.now)) result (content_bytes scope bytes.now) }
+{
+    let (count, rest) = u4_at(scope, bytes)?;
+    let count = count as usize;
+    if rest.len() < count {
+        return Err(scope.cut);
+    }
+    let (content, rest) = rest.split_at(count);
+    let inner = Scope {
+        cut: ClassFault::AttributeLength(scope.end.saturating_sub(bytes.len())),
+        end: scope.end.saturating_sub(rest.len()),
+    };
+    Ok(((inner, content), rest))
+}
