@@ -25,7 +25,13 @@ code_kind_of HeldInCode.Other = CodeKind.Bytes
 abbrev pub kinds_in : Place → List ℕ → Kind
 kinds_in Place.Class name = kind_in_class name
 kinds_in Place.Field name = kind_in_field name
-kinds_in Place.Method name = kind_in_method name
+kinds_in (Place.Method position) name = kind_in_method name
+
+-- the position of the method in which an attribute stands, if it does
+abbrev pub position_in : Place → ℕ
+position_in Place.Class = 0
+position_in Place.Field = 0
+position_in (Place.Method position) = position
 
 abbrev pub is_among : List (List ℕ) → List ℕ → Bool
 is_among earlier name = list_any (bytes_eq name) earlier

@@ -1,15 +1,16 @@
 //! What the format has an attribute hold, by its name and place (JVMS 4.7).
 
 ghost use Rattle.std.specs.Prelude.{◌≡◌, [], ◌∷◌, ℕ, List};
-ghost use Rattle.class_file.specs.WellFormed.{kind_in_code, kind_after};
-ghost use Rattle.class_format.specs.Kinds.{kind_of, code_kind_of, kinds_in, Marks, was_seen};
+ghost use Rattle.class_file.specs.WellFormed.{kind_in_class, kind_in_field, kind_in_method, kind_in_code, kind_after};
+ghost use Rattle.class_format.specs.Kinds.{kind_of, code_kind_of, kinds_in, position_in, Marks, was_seen};
 
 /// Where an attribute stands.
 #[derive(Clone, Copy, Debug, PartialEq, Eq)]
 pub(crate) enum Place {
     Class,
     Field,
-    Method,
+    /// The method of this position, from 0.
+    Method(u16),
 }
 
 /// What the format has an attribute of a class, a field or a method hold.
@@ -57,7 +58,7 @@ pub(crate) fn held_in_code(name: &[u8]) -> HeldInCode
 }
 
 fn held_in_class(name: &[u8]) -> Held
-    ensures { kind_of result ≡ kinds_in Place.Class name.now }
+    ensures { kind_of result ≡ kind_in_class name.now }
 {
     if name == b"InnerClasses".as_slice() {
         Held::InnerClasses
@@ -69,7 +70,7 @@ fn held_in_class(name: &[u8]) -> Held
 }
 
 fn held_in_field(name: &[u8]) -> Held
-    ensures { kind_of result ≡ kinds_in Place.Field name.now }
+    ensures { kind_of result ≡ kind_in_field name.now }
 {
     if name == b"ConstantValue".as_slice() {
         Held::ConstantValue
@@ -81,7 +82,7 @@ fn held_in_field(name: &[u8]) -> Held
 }
 
 fn held_in_method(name: &[u8]) -> Held
-    ensures { kind_of result ≡ kinds_in Place.Method name.now }
+    ensures { kind_of result ≡ kind_in_method name.now }
 {
     if name == b"Code".as_slice() {
         Held::Code
@@ -100,7 +101,19 @@ fn held_in(place: Place, name: &[u8]) -> Held
     match place {
         Place::Class => held_in_class(name),
         Place::Field => held_in_field(name),
-        Place::Method => held_in_method(name),
+        Place::Method(_) => held_in_method(name),
+    }
+}
+
+impl Place {
+    /// The position of the method, or 0 where the attribute stands in none.
+    pub(crate) fn position(self) -> u16
+        ensures { result ≡ position_in self }
+    {
+        match self {
+            Place::Class | Place::Field => 0,
+            Place::Method(position) => position,
+        }
     }
 }
 

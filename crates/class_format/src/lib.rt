@@ -2,6 +2,7 @@
 //! edition, chapter 4, with the changes of Java 5).
 #![tactic(auto)]
 
+mod attributes;
 mod code;
 mod fault;
 mod kinds;
