@@ -32,10 +32,7 @@ impl Starts {
     pub fn is_start(&self, pc: u32) -> bool
         ensures { (insns : List rule.Placed) → Marks self.now insns → result ≡ rule.is_start insns pc }
     {
-        match self.marks.get(pc as usize) {
-            Some(mark) => *mark,
-            None => false,
-        }
+        self.marks.get(pc as usize).copied().unwrap_or(false)
     }
 
     /// Whether an instruction stands at the place that is `offset` bytes from `pc`.

@@ -42,6 +42,25 @@ fn pairs_lead_well(code: &[u8], starts: &Starts, pc: u32, table: u32) -> bool
     true
 }
 
+fn table_switch_leads_well(code: &[u8], starts: &Starts, pc: u32, table: u32) -> bool
+    requires small { length code.now < 2 ^ 16 }
+    requires place { pc < 2 ^ 16 }
+    requires there { HasTable code.now table }
+    ensures { (insns : List rule.Placed) → Marks starts.now insns → result ≡ list_all (λ offset. rule.is_start_at insns (pos pc +ℤ offset)) (rule.offsets code.now (Insn.TableSwitch table)) }
+{
+    starts.is_start_from(pc, switch_default(code, table))
+        && table_leads_well(code, starts, pc, table)
+}
+
+fn lookup_switch_leads_well(code: &[u8], starts: &Starts, pc: u32, table: u32) -> bool
+    requires place { pc < 2 ^ 16 }
+    requires there { HasPairs code.now table }
+    ensures { (insns : List rule.Placed) → Marks starts.now insns → result ≡ list_all (λ offset. rule.is_start_at insns (pos pc +ℤ offset)) (rule.offsets code.now (Insn.LookupSwitch table)) }
+{
+    starts.is_start_from(pc, switch_default(code, table))
+        && pairs_lead_well(code, starts, pc, table)
+}
+
 // Whether each place where the instruction leads has an instruction.
 fn leads_well(code: &[u8], starts: &Starts, placed: &Placed) -> bool
     requires small { length code.now < 2 ^ 16 }
@@ -50,14 +69,8 @@ fn leads_well(code: &[u8], starts: &Starts, placed: &Placed) -> bool
 {
     match placed.insn {
         Insn::Branch { offset, .. } => starts.is_start_from(placed.pc, offset),
-        Insn::TableSwitch { table } => {
-            starts.is_start_from(placed.pc, switch_default(code, table))
-                && table_leads_well(code, starts, placed.pc, table)
-        }
-        Insn::LookupSwitch { table } => {
-            starts.is_start_from(placed.pc, switch_default(code, table))
-                && pairs_lead_well(code, starts, placed.pc, table)
-        }
+        Insn::TableSwitch { table } => table_switch_leads_well(code, starts, placed.pc, table),
+        Insn::LookupSwitch { table } => lookup_switch_leads_well(code, starts, placed.pc, table),
         _ => true,
     }
 }
