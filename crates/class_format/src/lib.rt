@@ -7,6 +7,7 @@ mod code;
 mod fault;
 mod kinds;
 mod known;
+mod members;
 mod numbers;
 mod pool;
 mod reading;
