@@ -2,3 +2,4 @@ pub mod Forms
 pub mod FirstUnsound
 pub mod Instructions
 pub mod Starts
+pub mod Turns

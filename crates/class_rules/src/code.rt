@@ -17,10 +17,10 @@ fn place_of(fault: CodeFault) -> u32
     ensures { result ≡ rule.place_of fault }
 {
     match fault {
-        CodeFault::Opcode(pc, _) => pc,
-        CodeFault::Cut(pc) => pc,
-        CodeFault::Wide(pc) => pc,
-        CodeFault::Switch(pc) => pc,
+        CodeFault::Opcode(pc, _)
+        | CodeFault::Cut(pc)
+        | CodeFault::Wide(pc)
+        | CodeFault::Switch(pc) => pc,
     }
 }
 

@@ -10,7 +10,7 @@ use opcode_table::{CodeFault, Insn, decode_at};
 use std::alloc::{AllocError, Global};
 
 /// An instruction at its place, in bytes from the start of the code.
-#[derive(Clone, Copy, Debug)]
+#[derive(Clone, Copy)]
 pub(crate) struct Placed {
     pub(crate) pc: u32,
     pub(crate) insn: Insn,

@@ -4,9 +4,10 @@ ghost use Rattle.std.specs.Prelude.{◌≡◌, ◌<◌, ◌+ℤ◌, ◌^◌, pos
 ghost use Rattle.std.specs.List.{All};
 ghost use Rattle.class_file.specs.Code as rule;
 ghost use Rattle.class_rules.specs.Instructions.{as_placed};
-ghost use Rattle.class_rules.specs.Starts.{Marks};
+ghost use Rattle.class_rules.specs.Starts.{Marks, Finds};
 
-use crate::instructions::Placed;
+use crate::instructions::{Placed, instructions};
+use opcode_table::CodeFault;
 use std::alloc::{AllocError, Global};
 
 /// The places of a method's code at which an instruction stands: a mark for each byte.
@@ -26,6 +27,18 @@ impl Starts {
             marks[placed.pc as usize] = true;
         }
         Ok(Starts { marks })
+    }
+
+    /// Finds the places at which the instructions of the code stand, or why at the first place that has
+    /// none there is none (JVMS 4.8.1), in time linear in the code.
+    pub fn find(alloc: Global, code: &[u8]) -> Result<Result<Starts, CodeFault>, AllocError>
+        requires { length code.now < 2 ^ 16 }
+        ensures { IfOk result (λ found. Finds found (rule.instructions code.now)) }
+    {
+        match instructions(alloc, code)? {
+            Ok(insns) => Ok(Ok(Starts::mark(alloc, code.len(), insns.as_slice())?)),
+            Err(fault) => Ok(Err(fault)),
+        }
     }
 
     /// Whether an instruction stands at the place, which may be any.
