@@ -3,3 +3,5 @@ pub mod PoolReading
 pub mod PartReading
 pub mod Reading
 pub mod Writing
+pub mod LawsCodec
+pub mod LawsParts
