@@ -1,5 +1,5 @@
 -- Readers made of parts: what they read are the values whose parts fit, and the spelling is that of the parts.
-use Rattle.std.proofs.Common.{◌≡◌, ℕ, zero, suc, ◌+◌, Bool, true, ◌&&◌, cond, eqb, List, [], ◌∷◌, ◌++◌, length, Result, Ok, Err, refl, sym, ap, subst, ◌∙◌, append_assoc, append-nil}
+use Rattle.std.proofs.Common.{◌≡◌, ℕ, zero, suc, Bool, true, ◌&&◌, cond, eqb, List, [], ◌∷◌, ◌++◌, length, Ok, Err, refl, sym, ap, subst, ◌∙◌, append_assoc, append-nil}
 use Rattle.std.specs.List.{flat_map, list_all}
 use Rattle.std.specs.Int.{w16, w32, to_be_bytes}
 use Rattle.std.proofs.lemmas.Bool.{and_parts, and_from, eqb-true}
@@ -9,7 +9,7 @@ use Rattle.class_format.specs.declared.fault.ClassFault.{ClassFault}
 use Rattle.class_file.specs.Spelling.{counted}
 use Rattle.class_file.specs.Range.{are_bytes, is_u2, is_u4, counted_fits}
 use Rattle.class_format.specs.declared.scope.Scope.{Scope}
-use Rattle.class_format.specs.Readers.{◌>>=◌, Reader, number, sized, both, made, judged, index_that, times, in_turn, listed, others, offset, inner_scope, exactly, content_bytes, behind_length}
+use Rattle.class_format.specs.Readers.{◌>>=◌, Reader, number, sized, both, made, judged, times, in_turn, listed, others, offset, inner_scope, exactly, content_bytes, behind_length}
 use Rattle.class_format.specs.LawsCodec.{IsBytes, IsBytes-none, IsBytes_from, are_bytes_from, bind_ok, passed, done, ok_is, Takes, Takes-then, IsCodec, u2_codec, sized_spelling, bytes_codec, bytes_back}
 
 -- a second part that depends on the first

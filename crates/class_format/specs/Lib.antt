@@ -5,3 +5,5 @@ pub mod Reading
 pub mod Writing
 pub mod LawsCodec
 pub mod LawsParts
+pub mod LawsEntries
+pub mod LawsPool
