@@ -1,15 +1,17 @@
 -- Readers made of parts: what they read are the values whose parts fit, and the spelling is that of the parts.
-use Rattle.std.proofs.Common.{◌≡◌, ℕ, zero, suc, Bool, true, ◌&&◌, cond, eqb, List, [], ◌∷◌, ◌++◌, length, Ok, Err, refl, sym, ap, subst, ◌∙◌, append_assoc, append-nil}
+use Rattle.std.proofs.Common.{Result, false, ◌≡◌, ℕ, zero, suc, Bool, true, ◌&&◌, cond, eqb, List, [], ◌∷◌, ◌++◌, length, Ok, Err, refl, sym, ap, subst, ◌∙◌, append_assoc, append-nil, Option, Some, None}
 use Rattle.std.specs.List.{flat_map, list_all}
+use Rattle.std.specs.Prelude.{is_none}
 use Rattle.std.specs.Int.{w16, w32, to_be_bytes}
 use Rattle.std.proofs.lemmas.Bool.{and_parts, and_from, eqb-true}
 use Rattle.std.proofs.lemmas.List.{nil_from_length}
 use Rattle.std.proofs.lemmas.List.Concat.{flat_map-cons}
 use Rattle.class_format.specs.declared.fault.ClassFault.{ClassFault}
-use Rattle.class_file.specs.Spelling.{counted}
+use Rattle.class_format.specs.declared.fault.ClassFault.TheVariants.{PoolRef}
+use Rattle.class_file.specs.Spelling.{u2, counted}
 use Rattle.class_file.specs.Range.{are_bytes, is_u2, is_u4, counted_fits}
 use Rattle.class_format.specs.declared.scope.Scope.{Scope}
-use Rattle.class_format.specs.Readers.{◌>>=◌, Reader, number, sized, both, made, judged, times, in_turn, listed, others, offset, inner_scope, exactly, content_bytes, behind_length}
+use Rattle.class_format.specs.Readers.{◌>>=◌, Reader, number, sized, unless, both, made, judged, times, in_turn, listed, others, offset, inner_scope, exactly, content_bytes, behind_length, index_that}
 use Rattle.class_format.specs.LawsCodec.{IsBytes, IsBytes-none, IsBytes_from, are_bytes_from, bind_ok, passed, done, ok_is, Takes, Takes-then, IsCodec, u2_codec, sized_spelling, bytes_codec, bytes_back}
 
 -- a second part that depends on the first
@@ -67,87 +69,53 @@ same_codec r f p q same c = record {
   again = λ scope x rest fits. c.again scope x rest (same x ∙ fits);
 }
 
--- ---- lists
+pub index_codec : (test : ℕ → Bool) → IsCodec (index_that test) u2 (λ n. is_u2 n && test n)
+index_codec test =
+    let c = judged_codec test PoolRef (number w16) u2 is_u2 u2_codec in
+    record { takes = c.takes; again = c.again }
 
--- each passes the test, which depends on those before
-unfoldable pub all_in_turn : {S X : Type 0} → (S → X → Bool) → (S → X → S) → S → List X → Bool
-all_in_turn p next s [] = true
-all_in_turn p next s (x ∷ xs) = p s x && all_in_turn p next (next s x) xs
+-- a reader that reads the same
+pub same_reader : {X : Type 0} (r s : Reader X) (f : X → List ℕ) (p : X → Bool) → ((scope : Scope) (bytes : List ℕ) → s scope bytes ≡ r scope bytes) → IsCodec r f p → IsCodec s f p
+same_reader r s f p same c = record {
+  takes = λ scope bytes x fits e. c.takes scope bytes x fits (sym (same scope bytes) ∙ e);
+  again = λ scope x rest fits. same scope (f x ++ rest) ∙ c.again scope x rest fits;
+}
 
-module _ {S X : Type 0} (r : S → Reader X) (next : S → X → S) (f : X → List ℕ) (p : S → X → Bool) (c : (s : S) → IsCodec (r s) f (p s)) where
-  pub turns_take : (n : ℕ) (s : S) (scope : Scope) (bytes : List ℕ) (x : List X × List ℕ) → IsBytes bytes → in_turn r next s n scope bytes ≡ Ok x
-      → Takes bytes (flat_map f x.0) x.1 × ((length x.0 ≡ n) × (all_in_turn p next s x.0 ≡ true))
-  unfolding in_turn all_in_turn
-  turns_take zero s scope bytes x fits e =
-      subst (λ (y : List X × List ℕ). Takes bytes (flat_map f y.0) y.1 × ((length y.0 ≡ 0) × (all_in_turn p next s y.0 ≡ true))) (ok_is ([], bytes) x e) (record { parts = refl; rest_fits = fits }, (refl, refl))
-  turns_take (suc n) s scope bytes x fits e =
-      let a = bind_ok (r s scope bytes) (λ first. in_turn r next (next s first.0) n scope first.1 >>= λ others. Ok (first.0 ∷ others.0, others.1)) x e in
-      let b = bind_ok (in_turn r next (next s a.0.0) n scope a.0.1) (λ others. Ok (a.0.0 ∷ others.0, others.1)) x a.2 in
-      let first = (c s).takes scope bytes a.0 fits a.1 in
-      let second = turns_take n (next s a.0.0) scope a.0.1 b.0 first.0.rest_fits b.1 in
-      let whole = Takes-then bytes (f a.0.0) a.0.1 (flat_map f b.0.0) b.0.1 first.0 second.0 in
-      subst (λ (y : List X × List ℕ). Takes bytes (flat_map f y.0) y.1 × ((length y.0 ≡ suc n) × (all_in_turn p next s y.0 ≡ true))) (ok_is (a.0.0 ∷ b.0.0, b.0.1) x b.2)
-      (rw flat_map-cons whole, (ap suc second.1.0, and_from (p s a.0.0) (all_in_turn p next (next s a.0.0) b.0.0) first.1 second.1.1))
+pub bind_assoc : {A B C : Type 0} (m : Result A ClassFault) (f : A → Result B ClassFault) (g : B → Result C ClassFault) → ((m >>= f) >>= g) ≡ (m >>= λ x. f x >>= g)
+bind_assoc (Ok x) f g = refl
+bind_assoc (Err e) f g = refl
 
-  pub turns_again : (s : S) (scope : Scope) (xs : List X) (rest : List ℕ) → all_in_turn p next s xs ≡ true → in_turn r next s (length xs) scope (flat_map f xs ++ rest) ≡ Ok (xs, rest)
-  unfolding in_turn all_in_turn
-  turns_again s scope [] rest fits = refl
-  turns_again s scope (x ∷ xs) rest fits =
-      let h = and_parts (p s x) (all_in_turn p next (next s x) xs) fits in
-      let regrouped : flat_map f (x ∷ xs) ++ rest ≡ f x ++ (flat_map f xs ++ rest) = ap (λ (t : List ℕ). t ++ rest) (flat_map-cons f x xs) ∙ append_assoc (f x) (flat_map f xs) rest in
-      ap (in_turn r next s (suc (length xs)) scope) regrouped ∙ rw ((c s).again scope x (flat_map f xs ++ rest) h.0, turns_again (next s x) scope xs rest h.1) refl
+pub bind_same : {A B : Type 0} (m : Result A ClassFault) (f g : A → Result B ClassFault) → ((x : A) → f x ≡ g x) → (m >>= f) ≡ (m >>= g)
+bind_same (Ok x) f g same = same x
+bind_same (Err e) f g same = refl
 
-  -- behind their count
-  pub counted_codec : (s : S) → IsCodec (λ scope bytes. number w16 scope bytes >>= λ n. in_turn r next s n.0 scope n.1) (counted f) (λ xs. is_u2 (length xs) && all_in_turn p next s xs)
-  counted_codec s = record {
-    takes = λ scope bytes x fits e.
-        let a = bind_ok (number w16 scope bytes) (λ n. in_turn r next s n.0 scope n.1) x e in
-        let t = u2_codec.takes scope bytes a.0 fits a.1 in
-        let u = turns_take a.0.0 s scope a.0.1 x t.0.rest_fits a.2 in
-        let whole = Takes-then bytes (to_be_bytes w16 a.0.0) a.0.1 (flat_map f x.0) x.1 t.0 u.0 in
-        (subst (λ (k : ℕ). Takes bytes (to_be_bytes w16 k ++ flat_map f x.0) x.1) (sym u.1.0) whole, and_from _ _ (subst (λ (k : ℕ). is_u2 k ≡ true) (sym u.1.0) t.1) u.1.1);
-    again = λ scope xs rest fits.
-        let h = and_parts (is_u2 (length xs)) (all_in_turn p next s xs) fits in
-        ap (λ (b : List ℕ). number w16 scope b >>= λ n. in_turn r next s n.0 scope n.1) (append_assoc (to_be_bytes w16 (length xs)) (flat_map f xs) rest)
-        ∙ rw (u2_codec.again scope (length xs) (flat_map f xs ++ rest) h.0) (turns_again s scope xs rest h.1);
-  }
+-- what both parts make, and what may be done with it
+pub followed_by : {X Y Z : Type 0} (r : Reader X) (s : X → Reader Y) (k : (X × Y) × List ℕ → Result (Z × List ℕ) ClassFault) (scope : Scope) (bytes : List ℕ)
+    → (r scope bytes >>= λ x. s x.0 scope x.1 >>= λ y. k ((x.0, y.0), y.1)) ≡ (followed r s scope bytes >>= k)
+followed_by {X} {Y} r s k scope bytes =
+    sym (bind_assoc (r scope bytes) (λ x. s x.0 scope x.1 >>= λ y. Ok ((x.0, y.0), y.1)) k
+    ∙ bind_same (r scope bytes) _ _ (λ x. bind_assoc (s x.0 scope x.1) (λ y. Ok ((x.0, y.0), y.1)) k))
 
-module _ {X : Type 0} (r : Reader X) (f : X → List ℕ) (p : X → Bool) (c : IsCodec r f p) where
-  times_take : (n : ℕ) (scope : Scope) (bytes : List ℕ) (x : List X × List ℕ) → IsBytes bytes → times r n scope bytes ≡ Ok x
-      → Takes bytes (flat_map f x.0) x.1 × ((length x.0 ≡ n) × (list_all p x.0 ≡ true))
-  unfolding times
-  times_take zero scope bytes x fits e =
-      subst (λ (y : List X × List ℕ). Takes bytes (flat_map f y.0) y.1 × ((length y.0 ≡ 0) × (list_all p y.0 ≡ true))) (ok_is ([], bytes) x e) (record { parts = refl; rest_fits = fits }, (refl, refl))
-  times_take (suc n) scope bytes x fits e =
-      let a = bind_ok (r scope bytes) (λ first. times r n scope first.1 >>= λ others. Ok (first.0 ∷ others.0, others.1)) x e in
-      let b = bind_ok (times r n scope a.0.1) (λ others. Ok (a.0.0 ∷ others.0, others.1)) x a.2 in
-      let first = c.takes scope bytes a.0 fits a.1 in
-      let second = times_take n scope a.0.1 b.0 first.0.rest_fits b.1 in
-      let whole = Takes-then bytes (f a.0.0) a.0.1 (flat_map f b.0.0) b.0.1 first.0 second.0 in
-      subst (λ (y : List X × List ℕ). Takes bytes (flat_map f y.0) y.1 × ((length y.0 ≡ suc n) × (list_all p y.0 ≡ true))) (ok_is (a.0.0 ∷ b.0.0, b.0.1) x b.2)
-      (rw flat_map-cons whole, (ap suc second.1.0, and_from (p a.0.0) (list_all p b.0.0) first.1 second.1.1))
+-- an optional fault that was not there
+pub no_fault : {X : Type 0} (o : Option ℕ) (fault : ℕ → ClassFault) (x y : X) → unless o fault x ≡ Ok y → (o ≡ None) × (x ≡ y)
+no_fault None fault x y e = (refl, ok_is x y e)
+no_fault (Some n) fault x y e = absurd cc
 
-  times_again : (scope : Scope) (xs : List X) (rest : List ℕ) → list_all p xs ≡ true → times r (length xs) scope (flat_map f xs ++ rest) ≡ Ok (xs, rest)
-  unfolding times
-  times_again scope [] rest fits = refl
-  times_again scope (x ∷ xs) rest fits =
-      let h = and_parts (p x) (list_all p xs) fits in
-      let regrouped : flat_map f (x ∷ xs) ++ rest ≡ f x ++ (flat_map f xs ++ rest) = ap (λ (t : List ℕ). t ++ rest) (flat_map-cons f x xs) ∙ append_assoc (f x) (flat_map f xs) rest in
-      ap (times r (suc (length xs)) scope) regrouped ∙ rw (c.again scope x (flat_map f xs ++ rest) h.0, times_again scope xs rest h.1) refl
+pub none_is : (o : Option ℕ) → is_none o ≡ true → o ≡ None
+none_is None h = refl
+none_is (Some n) h = absurd cc
 
-  pub listed_codec : IsCodec (listed r) (counted f) (counted_fits p)
-  listed_codec = record {
-    takes = λ scope bytes x fits e.
-        let a = bind_ok (number w16 scope bytes) (λ n. times r n.0 scope n.1) x e in
-        let t = u2_codec.takes scope bytes a.0 fits a.1 in
-        let u = times_take a.0.0 scope a.0.1 x t.0.rest_fits a.2 in
-        let whole = Takes-then bytes (to_be_bytes w16 a.0.0) a.0.1 (flat_map f x.0) x.1 t.0 u.0 in
-        (subst (λ (k : ℕ). Takes bytes (to_be_bytes w16 k ++ flat_map f x.0) x.1) (sym u.1.0) whole, and_from _ _ (subst (λ (k : ℕ). is_u2 k ≡ true) (sym u.1.0) t.1) u.1.1);
-    again = λ scope xs rest fits.
-        let h = and_parts (is_u2 (length xs)) (list_all p xs) fits in
-        ap (listed r scope) (append_assoc (to_be_bytes w16 (length xs)) (flat_map f xs) rest)
-        ∙ rw (u2_codec.again scope (length xs) (flat_map f xs ++ rest) h.0) (times_again scope xs rest h.1);
-  }
+-- a value in which no place is wrong
+pub unless_codec : {X : Type 0} (o : X → Option ℕ) (fault : ℕ → ClassFault) (r : Reader X) (f : X → List ℕ) (p : X → Bool) → IsCodec r f p
+    → IsCodec (λ scope bytes. r scope bytes >>= λ x. unless (o x.0) fault x) f (λ x. p x && is_none (o x))
+unless_codec {X} o fault r f p c = record {
+  takes = λ scope bytes x fits e.
+      let a = bind_ok (r scope bytes) (λ v. unless (o v.0) fault v) x e in
+      let g = no_fault (o a.0.0) fault a.0 x a.2 in
+      let t = c.takes scope bytes a.0 fits a.1 in
+      subst (λ (z : X × List ℕ). Takes bytes (f z.0) z.1 × ((p z.0 && is_none (o z.0)) ≡ true)) g.1 (t.0, and_from _ _ t.1 (rw g.0 refl));
+  again = λ scope x rest fits. let h = and_parts (p x) (is_none (o x)) fits in rw (c.again scope x rest h.0, none_is (o x) h.1) refl;
+}
 
 -- ---- content behind its length
 
@@ -171,15 +139,19 @@ others_whole = record {
   again = λ scope x fits. refl;
 }
 
-pub made_whole : {X Y : Type 0} (h : X → Y) (back : Y → X) (r : Reader X) (f : X → List ℕ) (p : X → Bool) → ((x : X) → p x ≡ true → back (h x) ≡ x) → ((y : Y) → h (back y) ≡ y) → IsWhole r f p
-    → IsWhole (made h r) (λ y. f (back y)) (λ y. p (back y))
-made_whole {X} {Y} h back r f p left right c = record {
+-- a value of one kind, made of what is read whole
+pub kind_whole : {X Y : Type 0} (h : X → Y) (r : Reader X) (f : X → List ℕ) (p : X → Bool) (g : Y → List ℕ) (q : Y → Bool) → ((x : X) → p x ≡ true → (g (h x) ≡ f x) × (q (h x) ≡ true))
+    → ((y : Y) → q y ≡ true → (x : X) × (p x ≡ true) × (h x ≡ y)) → IsWhole r f p → IsWhole (made h r) g q
+kind_whole {X} {Y} h r f p g q there back c = record {
   takes = λ scope bytes y fits e.
       let a = bind_ok (r scope bytes) (λ v. Ok (h v.0, v.1)) y e in
       let t = c.takes scope bytes a.0 fits a.1 in
-      subst (λ (z : Y × List ℕ). Takes bytes (f (back z.0)) z.1 × (p (back z.0) ≡ true)) (ok_is (h a.0.0, a.0.1) y a.2)
-      (subst (λ (x : X). Takes bytes (f x) a.0.1 × (p x ≡ true)) (sym (left a.0.0 t.1)) t);
-  again = λ scope y fits. rw (c.again scope (back y) fits) (ap (λ (z : Y). done (z, [])) (right y));
+      let k = there a.0.0 t.1 in
+      subst (λ (z : Y × List ℕ). Takes bytes (g z.0) z.1 × (q z.0 ≡ true)) (ok_is (h a.0.0, a.0.1) y a.2) (subst (λ (s : List ℕ). Takes bytes s a.0.1) (sym k.0) t.0, k.1);
+  again = λ scope y fits.
+      let b = back y fits in
+      let k = there b.0 b.1 in
+      ap (made h r scope) (ap g (sym b.2) ∙ k.0) ∙ rw (c.again scope b.0 b.1) (ap (λ (z : Y). done (z, [])) b.2);
 }
 
 -- content that is read whole, behind its length

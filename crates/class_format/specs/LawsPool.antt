@@ -16,7 +16,8 @@ use Rattle.class_format.specs.Readers.{◌>>=◌, number, unless}
 use Rattle.class_format.specs.PoolReading.{after, entry_of, entries, pool}
 use Rattle.class_format.specs.LawsCodec.{IsBytes, bind_ok, ok_is, Takes, Takes-then, IsCodec, u2_codec}
 use Rattle.class_format.specs.LawsEntries.{has_text, is_spelled, is_placed, stands, missed, entry_codec}
-use Rattle.class_format.specs.LawsParts.{all_in_turn, turns_take, turns_again}
+use Rattle.class_format.specs.LawsParts.{no_fault}
+use Rattle.class_format.specs.LawsLists.{all_in_turn, turns_take, turns_again}
 
 -- ---- where the entries stand
 
@@ -136,11 +137,6 @@ sound_texts all [] h = refl
 sound_texts all (e ∷ es) h =
     let p = and_parts (entry_is_sound all e) (list_all (entry_is_sound all) es) h in
     and_from (has_text e) (list_all has_text es) (sound_text all e p.0) (sound_texts all es p.1)
-
--- an optional fault that was not there
-pub no_fault : {X : Type 0} (o : Option ℕ) (fault : ℕ → ClassFault) (x y : X) → unless o fault x ≡ Ok y → (o ≡ None) × (x ≡ y)
-no_fault None fault x y e = (refl, ok_is x y e)
-no_fault (Some n) fault x y e = absurd cc
 
 pool_takes : (scope : Scope) (bytes : List ℕ) (x : List PoolEntry × List ℕ) → IsBytes bytes → pool scope bytes ≡ Ok x → Takes bytes (spelled_pool x.0) x.1 × (pool_is_sound x.0 ≡ true)
 unfolding pool

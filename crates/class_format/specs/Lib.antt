@@ -5,5 +5,7 @@ pub mod Reading
 pub mod Writing
 pub mod LawsCodec
 pub mod LawsParts
+pub mod LawsLists
 pub mod LawsEntries
 pub mod LawsPool
+pub mod LawsCode
