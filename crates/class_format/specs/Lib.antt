@@ -9,3 +9,4 @@ pub mod LawsLists
 pub mod LawsEntries
 pub mod LawsPool
 pub mod LawsCode
+pub mod LawsAttributes
