@@ -108,7 +108,7 @@ split_all p q t same (x ∷ xs) = ap (λ (b : Bool). b && list_all p xs) (same x
     and_swap true false false d = refl
     and_swap false b c d = refl
 
-and_assoc : (a b c : Bool) → (a && (b && c)) ≡ ((a && b) && c)
+pub and_assoc : (a b c : Bool) → (a && (b && c)) ≡ ((a && b) && c)
 and_assoc true b c = refl
 and_assoc false b c = refl
 

@@ -10,3 +10,5 @@ pub mod LawsEntries
 pub mod LawsPool
 pub mod LawsCode
 pub mod LawsAttributes
+pub mod LawsMembers
+pub mod LawsReading
