@@ -15,29 +15,13 @@ use Rattle.class_file.specs.declared.types.ExceptionEntry.{ExceptionEntry}
 use Rattle.class_file.specs.declared.types.InnerClass.{InnerClass}
 use Rattle.class_file.specs.declared.types.LineRow.{LineRow}
 use Rattle.class_file.specs.declared.types.VariableRow.{VariableRow}
-use Rattle.class_file.specs.Text.{is_field_descriptor, is_method_descriptor_with}
-use Rattle.class_file.specs.Pool.{entry_at, text_at}
-use Rattle.class_file.specs.Sound.{is_some_that}
+use Rattle.class_file.specs.Pool.{text_at}
 use Rattle.class_file.specs.Code.{code_fault}
-use Rattle.class_file.specs.WellFormed.{Kind, kind_in_field, kind_in_method, kind_after, CodeKind, kind_in_code, is_class_index, is_class_or_none, is_name_index, is_name_or_none, is_constant, receiver_slots}
+use Rattle.class_file.specs.WellFormed.{Kind, kind_in_field, kind_in_method, kind_after, CodeKind, kind_in_code, is_class_index, is_class_or_none, is_name_index, is_name_or_none}
 use Rattle.class_format.specs.declared.fault.ClassFault.{ClassFault}
 use Rattle.class_format.specs.declared.fault.ClassFault.TheVariants.{Code}
+use Rattle.class_format.specs.Roles.{is_text_index, is_type_index, is_signature_index, is_constant_index}
 use Rattle.class_format.specs.Readers.{◌>>=◌, Reader, number, sized, both, made, listed, in_turn, index_that, unless, others, behind_length}
-
--- ---- what indices may stand for, beside the tests of the form
-
-abbrev pub is_text_index : List PoolEntry → ℕ → Bool
-is_text_index pool index = is_some (text_at pool index)
-
-abbrev pub is_type_index : List PoolEntry → ℕ → Bool
-is_type_index pool index = is_some_that is_field_descriptor (text_at pool index)
-
--- the descriptor of a method with these flags
-abbrev pub is_signature_index : List PoolEntry → ℕ → ℕ → Bool
-is_signature_index pool flags index = is_some_that (is_method_descriptor_with (receiver_slots flags)) (text_at pool index)
-
-abbrev pub is_constant_index : List PoolEntry → ℕ → Bool
-is_constant_index pool index = is_some_that is_constant (entry_at pool index)
 
 -- ---- rows of tables
 

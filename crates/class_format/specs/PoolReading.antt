@@ -54,6 +54,9 @@ unfoldable pub entries : ℕ → Reader (List PoolEntry)
 entries zero scope bytes = Err (PoolRef 0)
 entries (suc n) scope bytes = in_turn (entry_of (suc n)) after (1, false) n scope bytes
 
+abbrev pub counted_entries : Reader (List PoolEntry)
+counted_entries scope bytes = number w16 scope bytes >>= λ n. entries n.0 scope n.1
+
 -- the pool, of which once it is read each entry must be sound
 unfoldable pub pool : Reader (List PoolEntry)
-pool scope bytes = number w16 scope bytes >>= λ n. entries n.0 scope n.1 >>= λ p. unless (first_unsound p.0) PoolRef p
+pool scope bytes = counted_entries scope bytes >>= λ p. unless (first_unsound p.0) PoolRef p

@@ -1,34 +1,19 @@
 -- Reading a class file in byte order: what bytes are read as, and else the first fault (JVMS 4.1).
-use Rattle.std.specs.Prelude.{◌≡◌, ℕ, ◌+◌, ◌-◌, ◌==◌, Bool, if◌then◌else◌, List, length, is_some, Result, Ok, Err}
+use Rattle.std.specs.Prelude.{ℕ, ◌+◌, ◌-◌, ◌==◌, Bool, if◌then◌else◌, List, length, is_some, Result, Ok, Err}
 use Rattle.std.specs.Int.{w16, w32}
 use Rattle.class_file.specs.declared.pool.PoolEntry.{PoolEntry}
 use Rattle.class_file.specs.declared.types.ClassFile.{ClassFile}
 use Rattle.class_file.specs.declared.types.Member.{Member}
 use Rattle.class_file.specs.declared.types.Attribute.{Attribute}
-use Rattle.class_file.specs.Text.{within, is_class_name}
-use Rattle.class_file.specs.Pool.{class_at}
-use Rattle.class_file.specs.Sound.{is_some_that}
+use Rattle.class_file.specs.Text.{within}
 use Rattle.class_file.specs.WellFormed.{kind_in_class, is_class_index}
 use Rattle.class_format.specs.declared.fault.ClassFault.{ClassFault}
-use Rattle.class_format.specs.declared.fault.ClassFault.TheVariants.{Memory, Magic, Version, Truncated, Trailing}
+use Rattle.class_format.specs.declared.fault.ClassFault.TheVariants.{Magic, Version, Truncated, Trailing}
 use Rattle.class_format.specs.declared.scope.Scope.{Scope}
+use Rattle.class_format.specs.Roles.{is_this_index}
 use Rattle.class_format.specs.Readers.{◌>>=◌, Reader, number, both, made, listed, in_turn, judged, index_that}
 use Rattle.class_format.specs.PoolReading.{pool}
 use Rattle.class_format.specs.PartReading.{attributes, field, method}
-
--- what is read is this fault, unless memory ran out
-abbrev pub Fails : {Y : Type 0} → ClassFault → Result Y ClassFault → Type 0
-Fails Memory read = Unit {0}
-Fails fault read = read ≡ Err fault
-
--- what a function returned, seen by view, is what is read, unless memory ran out
-abbrev pub GivesBy : {X Y : Type 0} → (X → Y) → Result X ClassFault → Result Y ClassFault → Type 0
-GivesBy view (Ok x) read = read ≡ Ok (view x)
-GivesBy view (Err e) read = Fails e read
-
--- the result is what is read, unless memory ran out
-abbrev pub Gives : {X : Type 0} → Result X ClassFault → Result X ClassFault → Type 0
-Gives result read = GivesBy (λ x. x) result read
 
 -- ---- the parts of a class
 
@@ -41,10 +26,6 @@ versions scope bytes = judged (λ v. within 46 50 v.1) (λ v. Version v.1) (both
 
 unfoldable pub version : Reader (ℕ × ℕ)
 version scope bytes = made (λ v. v.1) (both magic_number versions) scope bytes
-
--- the class itself is no array type
-abbrev pub is_this_index : List PoolEntry → ℕ → Bool
-is_this_index pool index = is_some_that is_class_name (class_at pool index)
 
 abbrev pub Names : Type 0
 Names = ℕ × (ℕ × (ℕ × List ℕ))

@@ -2,9 +2,16 @@
 //! edition, chapter 4, with the changes of Java 5).
 #![tactic(auto)]
 
+mod attributes;
+mod code;
 mod fault;
+mod kinds;
+mod known;
+mod numbers;
+mod pool;
 mod reading;
 mod scope;
+mod tables;
 mod writing;
 
 pub use class_file::{

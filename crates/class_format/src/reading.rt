@@ -3,7 +3,8 @@
 ghost use Rattle.std.specs.Prelude.{◌≡◌, IfOk, IsTrue, Ok};
 ghost use Rattle.class_file.specs.Spelling.{spelling};
 ghost use Rattle.class_file.specs.WellFormed.{is_well_formed};
-ghost use Rattle.class_format.specs.Reading.{Gives, reading};
+ghost use Rattle.class_format.specs.Gives.{Gives};
+ghost use Rattle.class_format.specs.Reading.{reading};
 
 use crate::fault::ClassFault;
 use class_file::ClassFile;

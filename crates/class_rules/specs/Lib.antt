@@ -1,3 +1,4 @@
 pub mod Forms
 pub mod FirstUnsound
+pub mod Instructions
 pub mod Starts

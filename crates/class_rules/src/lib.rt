@@ -4,8 +4,11 @@
 
 mod code;
 mod forms;
+mod instructions;
+mod operands;
 mod pool;
 mod starts;
+mod targets;
 
 pub use code::code_fault;
 pub use forms::TextForms;

@@ -1,0 +1,6 @@
+pub mod Dimensions
+pub mod FirstFailing
+pub mod FormsAt
+pub mod Marking
+pub mod Numbered
+pub mod Strays
