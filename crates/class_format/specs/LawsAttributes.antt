@@ -19,7 +19,8 @@ use Rattle.class_file.specs.WellFormed.{Kind, kind_after, is_of_kind, attributes
 use Rattle.class_format.specs.declared.fault.ClassFault.TheVariants.{Code}
 use Rattle.class_format.specs.declared.scope.Scope.{Scope}
 use Rattle.class_format.specs.Readers.{◌>>=◌, Reader, number, made, listed, in_turn, index_that, unless, others, behind_length}
-use Rattle.class_format.specs.PartReading.{is_text_index, is_constant_index, inner_class, code, held, kind_at, fault_in, to_attribute, attribute, with_name, attributes}
+use Rattle.class_format.specs.Roles.{is_text_index, is_constant_index}
+use Rattle.class_format.specs.PartReading.{inner_class, code, held, kind_at, fault_in, to_attribute, attribute, with_name, attributes}
 use Rattle.class_format.specs.LawsCodec.{IsBytes, ok_is, Takes, IsCodec, u2_codec, sized_spelling}
 use Rattle.class_format.specs.LawsParts.{followed, followed_codec, followed_by, made_codec, same_codec, index_codec, same_reader, bind_assoc, bind_same, unless_codec, IsWhole, whole_from, others_whole, kind_whole, length_codec}
 use Rattle.class_format.specs.LawsLists.{all_in_turn, counted_codec, sound_listed}

@@ -19,7 +19,8 @@ use Rattle.class_file.specs.Pool.{text_at}
 use Rattle.class_file.specs.Sound.{is_some_that}
 use Rattle.class_file.specs.WellFormed.{CodeKind, kind_in_code, is_of_code_kind, is_class_index, is_class_or_none, is_name_index, is_name_or_none, inner_is_sound, variable_is_sound, variable_type_is_sound, code_content_is_sound, code_attribute_is_sound}
 use Rattle.class_format.specs.Readers.{◌>>=◌, Reader, number, sized, both, made, listed, index_that, others, behind_length}
-use Rattle.class_format.specs.PartReading.{is_text_index, is_type_index, to_exception, exception, to_inner, inner_class, to_line, line, to_variable, variable, in_code, code_kind_at, to_code_attribute, code_attribute, to_code, code}
+use Rattle.class_format.specs.Roles.{is_text_index, is_type_index}
+use Rattle.class_format.specs.PartReading.{to_exception, exception, to_inner, inner_class, to_line, line, to_variable, variable, in_code, code_kind_at, to_code_attribute, code_attribute, to_code, code}
 use Rattle.class_format.specs.LawsCodec.{IsCodec, u2_codec, sized_spelling, bytes_codec}
 use Rattle.class_format.specs.LawsParts.{followed, followed_codec, followed_by, both_codec, made_codec, same_codec, index_codec, same_reader, IsWhole, whole_from, others_whole, kind_whole, length_codec}
 use Rattle.class_format.specs.LawsLists.{listed_codec, sound_listed}

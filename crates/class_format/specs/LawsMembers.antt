@@ -10,7 +10,8 @@ use Rattle.class_file.specs.Spelling.{u2, counted, spelled_attribute, spelled_me
 use Rattle.class_file.specs.Range.{is_u2, counted_fits, attribute_fits, member_fits}
 use Rattle.class_file.specs.WellFormed.{kind_in_field, kind_in_method, attributes_agree, is_name_index, content_is_sound, field_is_sound, method_is_sound}
 use Rattle.class_format.specs.Readers.{◌>>=◌, Reader, number, both, made, listed, in_turn, index_that}
-use Rattle.class_format.specs.PartReading.{is_type_index, is_signature_index, Head, head, attributes, to_member, field, method}
+use Rattle.class_format.specs.Roles.{is_type_index, is_signature_index}
+use Rattle.class_format.specs.PartReading.{Head, head, attributes, to_member, field, method}
 use Rattle.class_format.specs.Reading.{fields, methods}
 use Rattle.class_format.specs.LawsCodec.{IsCodec, u2_codec}
 use Rattle.class_format.specs.LawsParts.{followed, followed_codec, followed_by, both_codec, made_codec, same_codec, index_codec, same_reader}

@@ -13,7 +13,7 @@ use Rattle.class_format.specs.declared.fault.ClassFault.{ClassFault}
 use Rattle.class_format.specs.declared.fault.ClassFault.TheVariants.{PoolRef}
 use Rattle.class_format.specs.declared.scope.Scope.{Scope}
 use Rattle.class_format.specs.Readers.{◌>>=◌, number, unless}
-use Rattle.class_format.specs.PoolReading.{after, entry_of, entries, pool}
+use Rattle.class_format.specs.PoolReading.{after, entry_of, entries, counted_entries, pool}
 use Rattle.class_format.specs.LawsCodec.{IsBytes, bind_ok, ok_is, Takes, Takes-then, IsCodec, u2_codec}
 use Rattle.class_format.specs.LawsEntries.{has_text, is_spelled, is_placed, stands, missed, entry_codec}
 use Rattle.class_format.specs.LawsParts.{no_fault}
@@ -141,11 +141,11 @@ sound_texts all (e ∷ es) h =
 pool_takes : (scope : Scope) (bytes : List ℕ) (x : List PoolEntry × List ℕ) → IsBytes bytes → pool scope bytes ≡ Ok x → Takes bytes (spelled_pool x.0) x.1 × (pool_is_sound x.0 ≡ true)
 unfolding pool
 pool_takes scope bytes x fits e =
-    let a = bind_ok (number w16 scope bytes) (λ n. entries n.0 scope n.1 >>= λ p. unless (first_unsound p.0) PoolRef p) x e in
-    let b = bind_ok (entries a.0.0 scope a.0.1) (λ p. unless (first_unsound p.0) PoolRef p) x a.2 in
+    let b = bind_ok (counted_entries scope bytes) (λ p. unless (first_unsound p.0) PoolRef p) x e in
+    let a = bind_ok (number w16 scope bytes) (λ n. entries n.0 scope n.1) b.0 b.1 in
     let g = no_fault (first_unsound b.0.0) PoolRef b.0 x b.2 in
     let t = u2_codec.takes scope bytes a.0 fits a.1 in
-    let u = entries_take a.0.0 scope a.0.1 b.0 t.0.rest_fits b.1 in
+    let u = entries_take a.0.0 scope a.0.1 b.0 t.0.rest_fits a.2 in
     let p = and_parts (list_all entry_fits b.0.0) (seconds_follow false b.0.0 && list_all has_text b.0.0) u.1.1 in
     let q = and_parts (seconds_follow false b.0.0) (list_all has_text b.0.0) p.1 in
     let whole = Takes-then bytes (u2 a.0.0) a.0.1 (flat_map spelled_entry b.0.0) b.0.1 t.0 u.0 in

@@ -1,6 +1,7 @@
 -- Reading and spelling are inverse to one another: what is read is a well-formed class, and spelled so,
 -- and a well-formed class is read from its spelling.
 use Rattle.std.proofs.Common.{◌≡◌, ℕ, ◌-◌, Bool, true, false, ◌&&◌, cond, eqb, List, [], ◌∷◌, ◌++◌, length, Result, Ok, Err, refl, sym, ap, subst, ◌∙◌, append-nil}
+use Rattle.std.specs.Prelude.{IfOk}
 use Rattle.std.specs.List.{list_all}
 use Rattle.std.specs.Int.{w16, w32}
 use Rattle.std.proofs.lemmas.Bool.{and_parts, and_from, eqb-true}
@@ -17,10 +18,12 @@ use Rattle.class_file.specs.WellFormed.{kind_in_class, attributes_agree, is_clas
 use Rattle.class_format.specs.declared.fault.ClassFault.{ClassFault}
 use Rattle.class_format.specs.declared.fault.ClassFault.TheVariants.{Magic, Version, Trailing}
 use Rattle.class_format.specs.declared.scope.Scope.{Scope}
+use Rattle.class_format.specs.Gives.{Gives}
 use Rattle.class_format.specs.Readers.{◌>>=◌, Reader, number, both, made, judged, listed, index_that}
 use Rattle.class_format.specs.PoolReading.{pool}
 use Rattle.class_format.specs.PartReading.{attributes}
-use Rattle.class_format.specs.Reading.{magic_number, versions, version, is_this_index, Names, names, fields, methods, Parts, parts, to_class, class, file_scope, ended, reading}
+use Rattle.class_format.specs.Roles.{is_this_index}
+use Rattle.class_format.specs.Reading.{magic_number, versions, version, Names, names, fields, methods, Parts, parts, to_class, class, file_scope, ended, reading}
 use Rattle.class_format.specs.LawsCodec.{IsBytes, bind_ok, passed, ok_is, IsCodec, u2_codec, u4_codec}
 use Rattle.class_format.specs.LawsParts.{bind_same, followed, followed_codec, followed_by, both_codec, made_codec, judged_codec, same_codec, index_codec, same_reader}
 use Rattle.class_format.specs.LawsLists.{sound_listed}
@@ -205,3 +208,14 @@ reading_again c h =
     let scope = file_scope (length (spelling c)) in
     let read : class scope (spelling c) ≡ Ok (c, []) = ap (class scope) (sym (append-nil (spelling c))) ∙ class_codec.again scope c [] h in
     rw read refl
+
+-- ---- the same of a result that is what is read
+
+-- what was read is well-formed, and spelled so
+pub is_found : (bytes : List ℕ) (r : Result ClassFile ClassFault) → IsBytes bytes → Gives r (reading bytes) → IfOk r (λ c. (is_well_formed c ≡ true) × (bytes ≡ spelling c))
+is_found bytes (Ok c) fits given = reading_takes bytes c fits given
+is_found bytes (Err e) fits given = tt
+
+-- a well-formed class that is spelled so was read, unless memory ran out
+pub is_only : (bytes : List ℕ) (r : Result ClassFile ClassFault) → Gives r (reading bytes) → (c : ClassFile) → is_well_formed c ≡ true → bytes ≡ spelling c → Gives r (Ok c)
+is_only bytes r given c fits e = subst (λ (f : Result ClassFile ClassFault). Gives r f) (ap reading e ∙ reading_again c fits) given
