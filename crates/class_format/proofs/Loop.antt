@@ -97,3 +97,10 @@ list_begins r {count = count} {scope = scope} bytes {rest = rest} h =
     let k : count - 0 ≡ count = omega arith in
     let one : listed r scope bytes ≡ times r count scope rest = rw h refl in
     record { so_far = rw (k, one) (all_front (times r count scope rest)) }
+
+-- the items of a list behind their count, each of which depends on those before
+pub turn_list_begins : {S X : Type 0} (r : S → Reader X) (after : S → X → S) (known : S) {count : ℕ} {scope : Scope} (bytes : List ℕ) {rest : List ℕ} → number w16 scope bytes ≡ Ok (count, rest)
+    → IsLeft r after known (count - 0) [] scope rest (number w16 scope bytes >>= λ n. in_turn r after known n.0 scope n.1)
+turn_list_begins r after known {count = count} {scope = scope} bytes {rest = rest} h =
+    let k : count - 0 ≡ count = omega arith in
+    rw (k, h) (turns_begin r after known count scope rest)
