@@ -15,7 +15,7 @@ use class_file::{
 use std::alloc::{AllocError, Global};
 
 /// What an entry of a pool may serve as. An entry that is no text serves as nothing.
-#[derive(Clone, Copy, Debug, PartialEq, Eq)]
+#[derive(Clone, Copy, Debug)]
 pub(crate) struct TextForm {
     pub(crate) text: bool,
     pub(crate) class_name: bool,

@@ -4,10 +4,16 @@
 
 mod code;
 mod forms;
+mod instructions;
+mod operands;
 mod pool;
 mod starts;
+mod targets;
 
 pub use code::code_fault;
 pub use forms::TextForms;
 pub use pool::pool_fault;
 pub use starts::Starts;
+
+#[cfg(test)]
+mod tests;
