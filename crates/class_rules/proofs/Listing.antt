@@ -1,13 +1,12 @@
 -- The instructions up to a place, and those from it on.
 use Rattle.std.proofs.Common.{◌≡◌, ℕ, ◌+◌, ◌-◌, ◌<◌, ◌≤◌, List, [], ◌∷◌, ◌++◌, length, Result, Ok, Err, refl, sym, ap, ◌∙◌, arith}
 use Rattle.std.specs.Prelude.{map}
-use Rattle.std.specs.Result.{result_map_both}
 use Rattle.std.proofs.lemmas.List.{append_assoc, append-nil, map_push}
 use Rattle.opcode_table.specs.declared.insn.Insn.{Insn}
 use Rattle.opcode_table.specs.declared.fault.CodeFault.{CodeFault}
 use Rattle.opcode_table.specs.Decoding.{decoded}
 use Rattle.opcode_table.specs.Bytes.{IsBytes}
-use Rattle.class_file.specs.Code.{Placed, in_front, instructions_from}
+use Rattle.class_file.specs.Code.{Placed, in_front}
 use Rattle.class_rules.specs.declared.instructions.Placed as kept
 use Rattle.class_rules.specs.Instructions.{as_placed}
 use Rattle.class_rules.specs.Turns.{instructions_at, instructions_next, instructions_none, at_end}

@@ -19,6 +19,7 @@ text_form text = record {
   instance_descriptor = is_some_that (form.is_method_descriptor_with 1) text;
 }
 
+-- what an entry may serve as: nothing, where it is no text
 abbrev pub form_of : PoolEntry → TextForm
 form_of entry = text_form (as_text entry)
 

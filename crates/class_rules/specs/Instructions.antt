@@ -4,6 +4,7 @@ use Rattle.opcode_table.specs.Spelling.{HasSwitch}
 use Rattle.class_file.specs.Code.{Placed}
 use Rattle.class_rules.specs.declared.instructions.Placed as kept
 
+-- as the definition of code has it
 abbrev pub as_placed : kept.Placed → Placed
 as_placed p = record { pc = p.pc; insn = p.insn }
 

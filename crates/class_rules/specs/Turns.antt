@@ -1,5 +1,5 @@
 -- The instructions of code do not depend on the turns that are left, where there are as many as bytes.
-use Rattle.std.proofs.Common.{◌≡◌, ℕ, zero, suc, ◌+◌, ◌-◌, ◌<◌, ◌≤◌, Bool, true, false, if◌then◌else◌, eqb, List, [], ◌∷◌, length, Ok, Err, refl, sym, ap, ◌∙◌, inl, inr, arith}
+use Rattle.std.proofs.Common.{◌≡◌, ℕ, zero, suc, ◌+◌, ◌-◌, ◌<◌, ◌≤◌, Bool, if◌then◌else◌, List, [], length, Ok, Err, refl, sym, ap, ◌∙◌, inl, inr, arith}
 use Rattle.std.specs.Prelude.{Result}
 use Rattle.std.proofs.lemmas.Bool.{eq-eqb, ne_eqb, cases_eq}
 use Rattle.opcode_table.specs.declared.insn.Insn.{Insn}
@@ -8,7 +8,7 @@ use Rattle.opcode_table.specs.Decoding.{Decoded, decoded}
 use Rattle.opcode_table.specs.Bytes.{IsBytes}
 use Rattle.opcode_table.specs.Spelling.{Stands}
 use Rattle.opcode_table.specs.DecodedStands.{decoded_stands}
-use Rattle.class_file.specs.Code.{Placed, in_front, placed, instructions_from, instructions}
+use Rattle.class_file.specs.Code.{Placed, in_front, placed, instructions_from}
 
 abbrev Listed : Type 0
 Listed = Result (List Placed) CodeFault

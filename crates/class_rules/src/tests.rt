@@ -40,33 +40,28 @@ fn fault_with(rt: &impl Abort, alloc: Global, entry: PoolEntry) -> Result<Option
     Ok(pool_fault(&pool, &forms))
 }
 
+// Entries that name what is of another kind, or nothing, and a text that isn't modified UTF-8.
+fn unsound_entries(alloc: Global) -> Result<Vec<PoolEntry>, AllocError> {
+    let entries = vec![in alloc;
+        utf8(alloc, &[0])?,
+        PoolEntry::Class(2),
+        PoolEntry::String(0),
+        PoolEntry::Fieldref(2, 7),
+        PoolEntry::Methodref(2, 10),
+        PoolEntry::InterfaceMethodref(1, 7),
+        PoolEntry::NameAndType(1, 6),
+        PoolEntry::NameAndType(5, 5),
+    ]?;
+    Ok(entries)
+}
+
 #[test]
 fn pools_have_faults(rt: HostRuntime) -> Result<(), AllocError> {
     let alloc = rt.alloc();
     assert_eq!(rt; fault_with(&rt, alloc, PoolEntry::Float(0))?, None);
-    assert_eq!(rt; fault_with(&rt, alloc, utf8(alloc, &[0])?)?, Some(14));
-    assert_eq!(rt; fault_with(&rt, alloc, PoolEntry::Class(2))?, Some(14));
-    assert_eq!(rt; fault_with(&rt, alloc, PoolEntry::String(0))?, Some(14));
-    assert_eq!(rt;
-        fault_with(&rt, alloc, PoolEntry::Fieldref(2, 7))?,
-        Some(14)
-    );
-    assert_eq!(rt;
-        fault_with(&rt, alloc, PoolEntry::Methodref(2, 10))?,
-        Some(14)
-    );
-    assert_eq!(rt;
-        fault_with(&rt, alloc, PoolEntry::InterfaceMethodref(1, 7))?,
-        Some(14)
-    );
-    assert_eq!(rt;
-        fault_with(&rt, alloc, PoolEntry::NameAndType(1, 6))?,
-        Some(14)
-    );
-    assert_eq!(rt;
-        fault_with(&rt, alloc, PoolEntry::NameAndType(5, 5))?,
-        Some(14)
-    );
+    for entry in unsound_entries(alloc)? {
+        assert_eq!(rt; fault_with(&rt, alloc, entry), Ok(Some(14)));
+    }
     Ok(())
 }
 
@@ -104,121 +99,67 @@ fn code_of(alloc: Global, code: &[u8], entries: &[ExceptionEntry]) -> Result<Cod
     })
 }
 
+/// Code of a class of a major version, and the place of its fault: operands.
+const OPERANDS: [(u16, &[u8], Option<u32>); 14] = [
+    (49, &[], Some(0)),
+    (49, &[177], None),
+    (49, &[0, 17, 0], Some(1)),
+    (49, &[0, 178, 0, 8], Some(1)),
+    (49, &[178, 0, 8, 202], Some(3)),
+    (49, &[202, 178, 0, 8], Some(0)),
+    (49, &[18, 2], None),
+    (48, &[18, 2], Some(0)),
+    (49, &[20, 0, 12, 182, 0, 8, 181, 0, 11], None),
+    (49, &[185, 0, 8, 1, 0], Some(0)),
+    (49, &[188, 4, 188, 12], Some(2)),
+    (49, &[189, 0, 4, 187, 0, 1], Some(3)),
+    (49, &[197, 0, 4, 1, 197, 0, 4, 2], Some(4)),
+    (49, &[197, 0, 4, 0], Some(0)),
+];
+
+/// The same: `goto`, `goto_w`, `tableswitch` and `lookupswitch`. Each switch has its own place as its
+/// default, and the byte behind that as its other target.
+const BRANCHES: [(u16, &[u8], Option<u32>); 9] = [
+    (49, &[167, 0, 3, 167, 255, 253], None),
+    (49, &[0, 167, 0, 1], Some(1)),
+    (49, &[167, 255, 255], Some(0)),
+    (49, &[167, 0, 3], Some(0)),
+    (49, &[167, 0, 1, 178, 0, 8], Some(3)),
+    (49, &[200, 0, 0, 0, 0], None),
+    (49, &[200, 0, 0, 0, 1], Some(0)),
+    (
+        49,
+        &[170, 0, 0, 0, 0, 0, 0, 0, 0, 0, 0, 0, 0, 0, 0, 0, 0, 0, 0, 1],
+        Some(0),
+    ),
+    (
+        49,
+        &[171, 0, 0, 0, 0, 0, 0, 0, 0, 0, 0, 1, 0, 0, 0, 0, 0, 0, 0, 1],
+        Some(0),
+    ),
+];
+
 fn fault_of(alloc: Global, major: u16, code: &[u8]) -> Result<Option<u32>, AllocError> {
     let pool = sound_pool(alloc)?;
     code_fault(alloc, major, &pool, &code_of(alloc, code, &[])?)
 }
 
-#[test]
-fn instructions_have_faults(rt: HostRuntime) -> Result<(), AllocError> {
-    let alloc = rt.alloc();
-    assert_eq!(rt; fault_of(alloc, 49, &[])?, Some(0), "empty");
-    assert_eq!(rt; fault_of(alloc, 49, &[177])?, None, "return");
-    assert_eq!(rt; fault_of(alloc, 49, &[0, 17, 0])?, Some(1), "a cut sipush");
-    assert_eq!(rt;
-        fault_of(alloc, 49, &[0, 178, 0, 8])?,
-        Some(1),
-        "getstatic of a method"
-    );
-    assert_eq!(rt;
-        fault_of(alloc, 49, &[178, 0, 8, 202])?,
-        Some(3),
-        "no opcode comes first"
-    );
-    assert_eq!(rt;
-        fault_of(alloc, 49, &[202, 178, 0, 8])?,
-        Some(0),
-        "no opcode"
-    );
-    assert_eq!(rt; fault_of(alloc, 49, &[18, 2])?, None, "ldc of a class");
-    assert_eq!(rt;
-        fault_of(alloc, 48, &[18, 2])?,
-        Some(0),
-        "ldc of a class before Java 5"
-    );
-    assert_eq!(rt;
-        fault_of(alloc, 49, &[20, 0, 12, 182, 0, 8, 181, 0, 11])?,
-        None
-    );
-    assert_eq!(rt;
-        fault_of(alloc, 49, &[185, 0, 8, 1, 0])?,
-        Some(0),
-        "no method of an interface"
-    );
-    assert_eq!(rt;
-        fault_of(alloc, 49, &[188, 4, 188, 12])?,
-        Some(2),
-        "newarray"
-    );
-    assert_eq!(rt;
-        fault_of(alloc, 49, &[189, 0, 4, 187, 0, 1])?,
-        Some(3),
-        "new of a text"
-    );
-    assert_eq!(rt;
-        fault_of(alloc, 49, &[197, 0, 4, 1, 197, 0, 4, 2])?,
-        Some(4),
-        "dimensions"
-    );
-    assert_eq!(rt;
-        fault_of(alloc, 49, &[197, 0, 4, 0])?,
-        Some(0),
-        "no dimension"
-    );
-    Ok(())
+fn expect_fault(rt: &impl Abort, alloc: Global, major: u16, code: &[u8], want: Option<u32>) {
+    assert_eq!(rt; fault_of(alloc, major, code), Ok(want), "{code:?}");
 }
 
-/// A `tableswitch` whose default leads to itself, and whose only other offset to the byte behind.
-const TABLE: [u8; 20] = [170, 0, 0, 0, 0, 0, 0, 0, 0, 0, 0, 0, 0, 0, 0, 0, 0, 0, 0, 1];
-
-/// A `lookupswitch` of this kind, with one pair.
-const PAIRS: [u8; 20] = [171, 0, 0, 0, 0, 0, 0, 0, 0, 0, 0, 1, 0, 0, 0, 0, 0, 0, 0, 1];
+#[test]
+fn operands_have_faults(rt: HostRuntime) {
+    for (major, code, want) in OPERANDS {
+        expect_fault(&rt, rt.alloc(), major, code, want);
+    }
+}
 
 #[test]
-fn branches_have_faults(rt: HostRuntime) -> Result<(), AllocError> {
-    let alloc = rt.alloc();
-    assert_eq!(rt;
-        fault_of(alloc, 49, &[167, 0, 3, 167, 255, 253])?,
-        None,
-        "to each other"
-    );
-    assert_eq!(rt;
-        fault_of(alloc, 49, &[0, 167, 0, 1])?,
-        Some(1),
-        "into itself"
-    );
-    assert_eq!(rt;
-        fault_of(alloc, 49, &[167, 255, 255])?,
-        Some(0),
-        "before the start"
-    );
-    assert_eq!(rt; fault_of(alloc, 49, &[167, 0, 3])?, Some(0), "to the end");
-    assert_eq!(rt;
-        fault_of(alloc, 49, &[167, 0, 1, 178, 0, 8])?,
-        Some(3),
-        "operands come first"
-    );
-    assert_eq!(rt;
-        fault_of(alloc, 49, &[200, 0, 0, 0, 0])?,
-        None,
-        "goto_w to itself"
-    );
-    assert_eq!(rt;
-        fault_of(alloc, 49, &[200, 0, 0, 0, 1])?,
-        Some(0),
-        "goto_w into itself"
-    );
-    assert_eq!(rt;
-        fault_of(alloc, 49, &TABLE)?,
-        Some(0),
-        "a switch into itself"
-    );
-    assert_eq!(rt;
-        fault_of(alloc, 49, &PAIRS)?,
-        Some(0),
-        "a switch into itself"
-    );
-    Ok(())
+fn branches_have_faults(rt: HostRuntime) {
+    for (major, code, want) in BRANCHES {
+        expect_fault(&rt, rt.alloc(), major, code, want);
+    }
 }
 
 // The fault of `nop`, `sipush` and `return`, at 0, 1 and 4, with an entry of these places.
@@ -239,15 +180,19 @@ fn table_fault_of(
 }
 
 #[test]
-fn exception_tables_have_faults(rt: HostRuntime) -> Result<(), AllocError> {
-    let alloc = rt.alloc();
-    assert_eq!(rt; table_fault_of(alloc, 0, 4, 1)?, None);
-    assert_eq!(rt; table_fault_of(alloc, 0, 5, 4)?, None, "to the end");
-    assert_eq!(rt; table_fault_of(alloc, 2, 3, 3)?, Some(2), "the start");
-    assert_eq!(rt; table_fault_of(alloc, 0, 3, 3)?, Some(3), "the end");
-    assert_eq!(rt; table_fault_of(alloc, 0, 6, 4)?, Some(6), "past the end");
-    assert_eq!(rt; table_fault_of(alloc, 0, 5, 5)?, Some(5), "the handler");
-    Ok(())
+fn exception_tables_have_faults(rt: HostRuntime) {
+    let cases = [
+        (0, 4, 1, None),
+        (0, 5, 4, None),
+        (2, 3, 3, Some(2)),
+        (0, 3, 3, Some(3)),
+        (0, 6, 4, Some(6)),
+        (0, 5, 5, Some(5)),
+    ];
+    for (start, end, handler, want) in cases {
+        let found = table_fault_of(rt.alloc(), start, end, handler);
+        assert_eq!(rt; found, Ok(want), "{start} to {end}, {handler}");
+    }
 }
 
 #[test]

@@ -1,4 +1,4 @@
-use Rattle.std.proofs.Common.{ℕ, ◌+◌, ◌-◌, ◌≡◌, ◌∙◌, subst, arith}
+use Rattle.std.proofs.Common.{◌-◌, arith}
 use Rattle.class_rules.proofs.FormsAt.{got_at}
 use Rattle.class_rules.proofs.forms.form_at.Goals as goal
 

@@ -1,4 +1,4 @@
-use Rattle.std.proofs.Common.{◌≡◌, get_or, sym, ◌∙◌}
+use Rattle.std.proofs.Common.{sym, ◌∙◌}
 use Rattle.std.specs.Prelude.{map}
 use Rattle.class_file.specs.Code.{leads_well, first_failing}
 use Rattle.class_rules.specs.Instructions.{as_placed}

@@ -1,4 +1,3 @@
-use Rattle.std.proofs.Common.{◌≡◌}
 use Rattle.class_file.specs.Code.{first_stray}
 use Rattle.class_rules.proofs.Strays.{stray_here, none_here}
 use Rattle.class_rules.proofs.targets.table_fault.Goals as goal

@@ -1,4 +1,4 @@
-use Rattle.std.proofs.Common.{◌≡◌, arith, ◌∙◌}
+use Rattle.std.proofs.Common.{◌∙◌}
 use Rattle.std.proofs.lemmas.List.{length-set}
 use Rattle.class_rules.proofs.Marking.{marked_more}
 use Rattle.class_rules.proofs.starts.Starts.mark.Goals as goal
