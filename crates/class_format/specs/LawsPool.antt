@@ -8,7 +8,7 @@ use Rattle.class_file.specs.declared.pool.PoolEntry.TheVariants as entry
 use Rattle.class_file.specs.Spelling.{u2, spelled_entry, spelled_pool}
 use Rattle.class_file.specs.Range.{is_u2, entry_fits, pool_fits}
 use Rattle.class_file.specs.Sound.{is_wide, is_second, seconds_follow, entry_is_sound, entries_agree, pool_is_sound}
-use Rattle.class_rules.specs.FirstUnsound.{unsound_from, first_unsound}
+use Rattle.class_rules.specs.FirstUnsound.{first_unsound, first_unsound-none}
 use Rattle.class_format.specs.declared.fault.ClassFault.{ClassFault}
 use Rattle.class_format.specs.declared.fault.ClassFault.TheVariants.{PoolRef}
 use Rattle.class_format.specs.declared.scope.Scope.{Scope}
@@ -114,20 +114,6 @@ entries_again scope es rest h =
     let one : length es + 1 ≡ suc (length es) = omega arith in
     rw one (turns_again (entry_of (suc (length es))) after spelled_entry (stands (suc (length es))) (entry_codec (suc (length es))) (1, false) scope es rest (placed_back (suc (length es)) 1 false es (omega arith) h))
 
-sound_from : (pool : List PoolEntry) (index : ℕ) (es : List PoolEntry) → unsound_from pool index es ≡ None → list_all (entry_is_sound pool) es ≡ true
-sound_from pool index [] h = refl
-sound_from pool index (e ∷ es) h = go (entry_is_sound pool e) refl (sound_from pool (index + 1) es)
-  where
-    go : (b : Bool) → entry_is_sound pool e ≡ b → (unsound_from pool (index + 1) es ≡ None → list_all (entry_is_sound pool) es ≡ true) → list_all (entry_is_sound pool) (e ∷ es) ≡ true
-    go true is others = and_from (entry_is_sound pool e) (list_all (entry_is_sound pool) es) is (others (subst (λ (b : Bool). cond b (unsound_from pool (index + 1) es) (Some index) ≡ None) is h))
-    go false is others = absurd (let k = subst (λ (b : Bool). cond b (unsound_from pool (index + 1) es) (Some index) ≡ None) is h in cc)
-
-none_unsound : (pool : List PoolEntry) (index : ℕ) (es : List PoolEntry) → list_all (entry_is_sound pool) es ≡ true → unsound_from pool index es ≡ None
-none_unsound pool index [] h = refl
-none_unsound pool index (e ∷ es) h =
-    let p = and_parts (entry_is_sound pool e) (list_all (entry_is_sound pool) es) h in
-    rw p.0 (none_unsound pool (index + 1) es p.1)
-
 sound_text : (all : List PoolEntry) (e : PoolEntry) → entry_is_sound all e ≡ true → has_text e ≡ true
 sound_text all (entry.Utf8 text) h = h
 sound_text all _ h = refl
@@ -153,7 +139,7 @@ pool_takes scope bytes x fits e =
     let sized : is_u2 (length b.0.0 + 1) ≡ true = subst (λ (n : ℕ). is_u2 n ≡ true) (sym u.1.0) t.1 in
     let sound : pool_is_sound b.0.0 ≡ true =
     and_from (pool_fits b.0.0) (entries_agree b.0.0) (and_from (is_u2 (length b.0.0 + 1)) (list_all entry_fits b.0.0) sized p.0)
-    (and_from (seconds_follow false b.0.0) (list_all (entry_is_sound b.0.0) b.0.0) q.0 (sound_from b.0.0 1 b.0.0 g.0)) in
+    (and_from (seconds_follow false b.0.0) (list_all (entry_is_sound b.0.0) b.0.0) q.0 ((first_unsound-none b.0.0).0 g.0)) in
     subst (λ (y : List PoolEntry × List ℕ). Takes bytes (spelled_pool y.0) y.1 × (pool_is_sound y.0 ≡ true)) g.1 (spelled, sound)
 
 pool_again : (scope : Scope) (es : List PoolEntry) (rest : List ℕ) → pool_is_sound es ≡ true → pool scope (spelled_pool es ++ rest) ≡ Ok (es, rest)
@@ -164,7 +150,7 @@ pool_again scope es rest fits =
     let r = and_parts (seconds_follow false es) (list_all (entry_is_sound es) es) p.1 in
     let placed : are_placed false es ≡ true = and_from _ _ q.1 (and_from _ _ r.0 (sound_texts es es r.1)) in
     ap (pool scope) (append_assoc (u2 (length es + 1)) (flat_map spelled_entry es) rest)
-    ∙ rw (u2_codec.again scope (length es + 1) (flat_map spelled_entry es ++ rest) q.0, entries_again scope es rest placed, none_unsound es 1 es r.1) refl
+    ∙ rw (u2_codec.again scope (length es + 1) (flat_map spelled_entry es ++ rest) q.0, entries_again scope es rest placed, (first_unsound-none es).1 r.1) refl
 
 pub pool_codec : IsCodec pool spelled_pool pool_is_sound
 pool_codec = record { takes = pool_takes; again = pool_again }
