@@ -50,7 +50,7 @@ fn version_at(scope: Scope, bytes: &[u8]) -> Result<((u16, u16), &[u8]), ClassFa
     }
     let (minor, rest) = u2_at(scope, rest)?;
     let (major, rest) = u2_at(scope, rest)?;
-    if major < 46 || major >= 50 {
+    if !(46..50).contains(&major) {
         return Err(ClassFault::Version(major));
     }
     Ok(((minor, major), rest))
