@@ -73,10 +73,7 @@ pub(crate) fn long_bytes_at(scope: Scope, bytes: &[u8]) -> Result<(&[u8], &[u8])
 }
 
 /// The content of an attribute behind its length, with its scope.
-pub(crate) fn content_at(
-    scope: Scope,
-    bytes: &[u8],
-) -> Result<((Scope, &[u8]), &[u8]), ClassFault>
+pub(crate) fn content_at(scope: Scope, bytes: &[u8]) -> Result<((Scope, &[u8]), &[u8]), ClassFault>
     ensures { GivesBy (λ x. ((x.0.0, x.0.1.now), x.1.now)) result (content_bytes scope bytes.now) }
 {
     let (content, rest) = long_bytes_at(scope, bytes)?;

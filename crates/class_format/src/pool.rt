@@ -49,11 +49,7 @@ fn text_at(
 }
 
 #[tactic(auto, unfolding(crate::specs::PoolReading::tagged))]
-fn number_entry(
-    tag: u8,
-    scope: Scope,
-    bytes: &[u8],
-) -> Result<(PoolEntry, &[u8]), ClassFault>
+fn number_entry(tag: u8, scope: Scope, bytes: &[u8]) -> Result<(PoolEntry, &[u8]), ClassFault>
     requires { (2 < tag) × (tag < 7) }
     ensures { (index : ℕ) → GivesBy (λ x. (x.0, x.1.now)) result (tagged index tag scope bytes.now) }
 {

@@ -99,11 +99,7 @@ fn parts_at<'a>(
 }
 
 #[tactic(auto, unfolding(crate::specs::Reading::class))]
-fn class_at(
-    alloc: Global,
-    scope: Scope,
-    bytes: &[u8],
-) -> Result<(ClassFile, &[u8]), ClassFault>
+fn class_at(alloc: Global, scope: Scope, bytes: &[u8]) -> Result<(ClassFile, &[u8]), ClassFault>
     ensures { GivesBy (λ x. (x.0, x.1.now)) result (class scope bytes.now) }
 {
     let ((minor, major), rest) = version_at(scope, bytes)?;
