@@ -1,8 +1,7 @@
 -- Reading items one after the other, as a loop does.
-use Rattle.std.proofs.Common.{◌≡◌, ◌≢◌, ℕ, suc, ◌-◌, ◌+◌, ◌≤◌, ◌<◌, List, [], ◌∷◌, ◌++◌, Result, Ok, Err, refl, sym, ap, ◌∙◌, append_assoc, arith}
+use Rattle.std.proofs.Common.{◌≡◌, ℕ, suc, ◌-◌, ◌+◌, ◌≤◌, ◌<◌, List, [], ◌∷◌, ◌++◌, Result, Ok, Err, refl, sym, ap, ◌∙◌, append_assoc, arith}
 use Rattle.std.proofs.lemmas.List.{append-nil}
 use Rattle.class_format.specs.declared.fault.ClassFault.{ClassFault}
-use Rattle.class_format.specs.declared.fault.ClassFault.TheVariants.{Memory}
 use Rattle.class_format.specs.declared.scope.Scope.{Scope}
 use Rattle.class_format.specs.Gives.{Fails}
 use Rattle.std.specs.Int.{w16}
@@ -36,7 +35,7 @@ unfolding in_turn
 turns_go_on {r = r} {after = after} {known = known} {front = front} {count = count} {i = i} {scope = scope} {bytes = bytes} x rest left lt h =
     let k : count - i ≡ suc (count - (i + 1)) = omega arith in
     let one : with_front front (in_turn r after known (count - i) scope bytes) ≡ with_front (front ++ x ∷ []) (in_turn r after (after known x) (count - (i + 1)) scope rest) =
-        rw (k, h) (regroup front x (in_turn r after (after known x) (count - (i + 1)) scope rest)) in
+    rw (k, h) (regroup front x (in_turn r after (after known x) (count - (i + 1)) scope rest)) in
     record { so_far = sym one ∙ left.so_far }
 
 pub turns_end : {S X : Type 0} {r : S → Reader X} {after : S → X → S} {known : S} {front : List X} {count i : ℕ} {scope : Scope} {bytes : List ℕ} {total : Result (List X × List ℕ) ClassFault} (e : ClassFault)
@@ -71,7 +70,7 @@ unfolding times
 go_on {r = r} {front = front} {count = count} {i = i} {scope = scope} {bytes = bytes} x rest left lt h =
     let k : count - i ≡ suc (count - (i + 1)) = omega arith in
     let one : with_front front (times r (count - i) scope bytes) ≡ with_front (front ++ x ∷ []) (times r (count - (i + 1)) scope rest) =
-        rw (k, h) (regroup front x (times r (count - (i + 1)) scope rest)) in
+    rw (k, h) (regroup front x (times r (count - (i + 1)) scope rest)) in
     record { so_far = sym one ∙ left.so_far }
 
 pub end : {X : Type 0} {r : Reader X} {front : List X} {count i : ℕ} {scope : Scope} {bytes : List ℕ} {total : Result (List X × List ℕ) ClassFault} (e : ClassFault)

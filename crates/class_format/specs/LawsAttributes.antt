@@ -1,8 +1,8 @@
 -- The reader of the attributes of a class, a field or a method reads the spellings of those that agree.
 use Rattle.std.proofs.Common.{◌≡◌, ℕ, Bool, true, false, ◌&&◌, List, [], ◌∷◌, length, Option, Some, None, Ok, refl, sym, ap, subst, ◌∙◌}
 use Rattle.std.specs.Prelude.{is_some, is_none}
-use Rattle.std.specs.List.{list_all, cons_option}
-use Rattle.std.specs.Int.{w16, w32}
+use Rattle.std.specs.List.{list_all}
+use Rattle.std.specs.Int.{w32}
 use Rattle.std.proofs.lemmas.Bool.{and_parts, and_from}
 use Rattle.class_file.specs.declared.pool.PoolEntry.{PoolEntry}
 use Rattle.class_file.specs.declared.types.Attribute.{Attribute}
@@ -12,17 +12,16 @@ use Rattle.class_file.specs.declared.types.CodeAttr.{CodeAttr}
 use Rattle.class_file.specs.declared.types.InnerClass.{InnerClass}
 use Rattle.class_file.specs.Spelling.{u2, counted, spelled_inner, spelled_code, spelled_content, spelled_attribute}
 use Rattle.class_file.specs.Range.{is_u2, is_u4, are_bytes, counted_fits, inner_fits, code_fits, content_fits, attribute_fits}
-use Rattle.class_file.specs.Pool.{entry_at, text_at}
+use Rattle.class_file.specs.Pool.{text_at}
 use Rattle.class_file.specs.Sound.{is_some_that}
 use Rattle.class_file.specs.Code.{code_fault}
-use Rattle.class_file.specs.WellFormed.{Kind, kind_after, is_of_kind, attributes_agree, is_class_index, is_class_or_none, is_constant, inner_is_sound, code_attribute_is_sound, content_is_sound}
+use Rattle.class_file.specs.WellFormed.{Kind, kind_after, is_of_kind, attributes_agree, is_class_index, is_class_or_none, inner_is_sound, code_attribute_is_sound, content_is_sound}
 use Rattle.class_format.specs.declared.fault.ClassFault.TheVariants.{Code}
-use Rattle.class_format.specs.declared.scope.Scope.{Scope}
-use Rattle.class_format.specs.Readers.{◌>>=◌, Reader, number, made, listed, in_turn, index_that, unless, others, behind_length}
+use Rattle.class_format.specs.Readers.{made, listed, index_that, unless, others, behind_length}
 use Rattle.class_format.specs.Roles.{is_text_index, is_constant_index}
 use Rattle.class_format.specs.PartReading.{inner_class, code, held, kind_at, fault_in, to_attribute, attribute, with_name, attributes}
-use Rattle.class_format.specs.LawsCodec.{IsBytes, ok_is, Takes, IsCodec, u2_codec, sized_spelling}
-use Rattle.class_format.specs.LawsParts.{followed, followed_codec, followed_by, made_codec, same_codec, index_codec, same_reader, bind_assoc, bind_same, unless_codec, IsWhole, whole_from, others_whole, kind_whole, length_codec}
+use Rattle.class_format.specs.LawsCodec.{ok_is, Takes, IsCodec, sized_spelling}
+use Rattle.class_format.specs.LawsParts.{followed, followed_codec, followed_by, made_codec, same_codec, index_codec, same_reader, bind_assoc, unless_codec, IsWhole, whole_from, others_whole, kind_whole, length_codec}
 use Rattle.class_format.specs.LawsLists.{all_in_turn, counted_codec, sound_listed}
 use Rattle.class_format.specs.LawsCode.{same_truth, no_such, inner_codec, code_stands, code_codec}
 

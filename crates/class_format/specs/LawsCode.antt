@@ -1,24 +1,21 @@
 -- The readers of rows of tables, of the attributes of a Code and of a Code read the spellings of those that are sound.
-use Rattle.std.proofs.Common.{◌≡◌, ℕ, Bool, true, false, ◌&&◌, List, [], ◌∷◌, ◌++◌, length, Option, Some, None, Ok, refl, sym, ap, subst, ◌∙◌}
+use Rattle.std.proofs.Common.{◌≡◌, ℕ, Bool, true, false, ◌&&◌, List, length, Option, Some, None, Ok, refl, sym, ap, ◌∙◌}
 use Rattle.std.specs.Prelude.{is_some}
 use Rattle.std.specs.List.{list_all}
 use Rattle.std.specs.Int.{w16, w32}
 use Rattle.std.proofs.lemmas.Bool.{and_parts, and_from}
 use Rattle.class_file.specs.declared.pool.PoolEntry.{PoolEntry}
 use Rattle.class_file.specs.declared.types.CodeAttr.{CodeAttr}
-use Rattle.class_file.specs.declared.types.CodeAttribute.{CodeAttribute}
 use Rattle.class_file.specs.declared.types.CodeContent.{CodeContent}
 use Rattle.class_file.specs.declared.types.CodeContent.TheVariants as code_content
-use Rattle.class_file.specs.declared.types.ExceptionEntry.{ExceptionEntry}
-use Rattle.class_file.specs.declared.types.InnerClass.{InnerClass}
 use Rattle.class_file.specs.declared.types.LineRow.{LineRow}
 use Rattle.class_file.specs.declared.types.VariableRow.{VariableRow}
-use Rattle.class_file.specs.Spelling.{u2, u4, counted, spelled_exception, spelled_inner, spelled_line, spelled_variable, spelled_code_content, spelled_code_attribute, spelled_code}
+use Rattle.class_file.specs.Spelling.{u2, counted, spelled_exception, spelled_inner, spelled_line, spelled_variable, spelled_code_content, spelled_code_attribute, spelled_code}
 use Rattle.class_file.specs.Range.{is_u2, is_u4, are_bytes, counted_fits, exception_fits, inner_fits, line_fits, variable_fits, code_content_fits, code_attribute_fits, code_fits}
 use Rattle.class_file.specs.Pool.{text_at}
 use Rattle.class_file.specs.Sound.{is_some_that}
 use Rattle.class_file.specs.WellFormed.{CodeKind, kind_in_code, is_of_code_kind, is_class_index, is_class_or_none, is_name_index, is_name_or_none, inner_is_sound, variable_is_sound, variable_type_is_sound, code_content_is_sound, code_attribute_is_sound}
-use Rattle.class_format.specs.Readers.{◌>>=◌, Reader, number, sized, both, made, listed, index_that, others, behind_length}
+use Rattle.class_format.specs.Readers.{number, sized, listed, index_that, others, behind_length}
 use Rattle.class_format.specs.Roles.{is_text_index, is_type_index}
 use Rattle.class_format.specs.PartReading.{to_exception, exception, to_inner, inner_class, to_line, line, to_variable, variable, in_code, code_kind_at, to_code_attribute, code_attribute, to_code, code}
 use Rattle.class_format.specs.LawsCodec.{IsCodec, u2_codec, sized_spelling, bytes_codec}

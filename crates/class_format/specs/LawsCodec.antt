@@ -149,7 +149,6 @@ bytes_again scope text rest =
     let long : ltb (length (text ++ rest)) (length text) ≡ false = le-ltb _ _ (omega (arith, length-append text rest)) in
     rw (long, take_at text rest (length text) refl, drop_at text rest (length text) refl) refl
 
-
 -- ---- bytes behind their number
 
 abbrev pub sized_spelling : Width → List ℕ → List ℕ

@@ -206,4 +206,3 @@ entry_codec count turn = record {
   takes = λ scope bytes y fits e. turn_takes count turn.0 turn.1 scope bytes y fits e;
   again = λ scope e rest h. turn_again count turn.0 turn.1 scope e rest h;
 }
-

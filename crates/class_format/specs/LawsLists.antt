@@ -1,17 +1,14 @@
 -- Readers of lists: what they read are the lists whose items fit, and the spelling is that of the items.
-use Rattle.std.proofs.Common.{Result, false, ◌≡◌, ℕ, zero, suc, Bool, true, ◌&&◌, cond, eqb, List, [], ◌∷◌, ◌++◌, length, Ok, Err, refl, sym, ap, subst, ◌∙◌, append_assoc, append-nil, Option, Some, None}
+use Rattle.std.proofs.Common.{false, ◌≡◌, ℕ, zero, suc, Bool, true, ◌&&◌, List, [], ◌∷◌, ◌++◌, length, Ok, refl, sym, ap, subst, ◌∙◌, append_assoc}
 use Rattle.std.specs.List.{flat_map, list_all}
-use Rattle.std.specs.Prelude.{is_none}
-use Rattle.std.specs.Int.{w16, w32, to_be_bytes}
-use Rattle.std.proofs.lemmas.Bool.{and_parts, and_from, eqb-true}
-use Rattle.std.proofs.lemmas.List.{nil_from_length}
+use Rattle.std.specs.Int.{w16, to_be_bytes}
+use Rattle.std.proofs.lemmas.Bool.{and_parts, and_from}
 use Rattle.std.proofs.lemmas.List.Concat.{flat_map-cons}
-use Rattle.class_format.specs.declared.fault.ClassFault.{ClassFault}
 use Rattle.class_file.specs.Spelling.{counted}
-use Rattle.class_file.specs.Range.{are_bytes, is_u2, is_u4, counted_fits}
+use Rattle.class_file.specs.Range.{is_u2, counted_fits}
 use Rattle.class_format.specs.declared.scope.Scope.{Scope}
-use Rattle.class_format.specs.Readers.{◌>>=◌, Reader, number, sized, both, made, judged, times, in_turn, listed, others, offset, inner_scope, exactly, content_bytes, behind_length}
-use Rattle.class_format.specs.LawsCodec.{IsBytes, IsBytes-none, IsBytes_from, are_bytes_from, bind_ok, passed, done, ok_is, Takes, Takes-then, IsCodec, u2_codec, sized_spelling, bytes_codec, bytes_back}
+use Rattle.class_format.specs.Readers.{◌>>=◌, Reader, number, times, in_turn, listed}
+use Rattle.class_format.specs.LawsCodec.{IsBytes, bind_ok, ok_is, Takes, Takes-then, IsCodec, u2_codec}
 use Rattle.class_format.specs.LawsParts.{same_codec}
 
 -- ---- lists
@@ -95,7 +92,6 @@ module _ {X : Type 0} (r : Reader X) (f : X → List ℕ) (p : X → Bool) (c : 
         ap (listed r scope) (append_assoc (to_be_bytes w16 (length xs)) (flat_map f xs) rest)
         ∙ rw (u2_codec.again scope (length xs) (flat_map f xs ++ rest) h.0) (times_again scope xs rest h.1);
   }
-
 
 -- a test of two parts
 pub split_all : {X : Type 0} (p q t : X → Bool) → ((x : X) → p x ≡ (q x && t x)) → (xs : List X) → list_all p xs ≡ (list_all q xs && list_all t xs)

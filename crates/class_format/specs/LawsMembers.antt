@@ -1,5 +1,5 @@
 -- The readers of fields and methods read the spellings of those that are sound.
-use Rattle.std.proofs.Common.{◌≡◌, ℕ, ◌+◌, Bool, true, false, ◌&&◌, List, [], ◌∷◌, ◌++◌, length, Ok, refl, sym, ap, subst, ◌∙◌}
+use Rattle.std.proofs.Common.{◌≡◌, ℕ, ◌+◌, Bool, ◌&&◌, List, [], ◌++◌, length, Ok, refl, ap, ◌∙◌}
 use Rattle.std.specs.List.{list_all}
 use Rattle.std.specs.Int.{w16}
 use Rattle.std.proofs.lemmas.Bool.{and_parts, and_from}
@@ -9,13 +9,13 @@ use Rattle.class_file.specs.declared.types.Attribute.{Attribute}
 use Rattle.class_file.specs.Spelling.{u2, counted, spelled_attribute, spelled_member}
 use Rattle.class_file.specs.Range.{is_u2, counted_fits, attribute_fits, member_fits}
 use Rattle.class_file.specs.WellFormed.{kind_in_field, kind_in_method, attributes_agree, is_name_index, content_is_sound, field_is_sound, method_is_sound}
-use Rattle.class_format.specs.Readers.{◌>>=◌, Reader, number, both, made, listed, in_turn, index_that}
+use Rattle.class_format.specs.Readers.{Reader, number, both, made, index_that}
 use Rattle.class_format.specs.Roles.{is_type_index, is_signature_index}
 use Rattle.class_format.specs.PartReading.{Head, head, attributes, to_member, field, method}
 use Rattle.class_format.specs.Reading.{fields, methods}
 use Rattle.class_format.specs.LawsCodec.{IsCodec, u2_codec}
 use Rattle.class_format.specs.LawsParts.{followed, followed_codec, followed_by, both_codec, made_codec, same_codec, index_codec, same_reader}
-use Rattle.class_format.specs.LawsLists.{all_in_turn, counted_codec, sound_listed, split_all, all_alike, and_assoc}
+use Rattle.class_format.specs.LawsLists.{counted_codec, sound_listed, split_all, all_alike, and_assoc}
 use Rattle.class_format.specs.LawsCode.{same_truth}
 use Rattle.class_format.specs.LawsAttributes.{attributes_codec}
 

@@ -1,17 +1,15 @@
 -- Readers made of parts: what they read are the values whose parts fit, and the spelling is that of the parts.
-use Rattle.std.proofs.Common.{Result, false, ◌≡◌, ℕ, zero, suc, Bool, true, ◌&&◌, cond, eqb, List, [], ◌∷◌, ◌++◌, length, Ok, Err, refl, sym, ap, subst, ◌∙◌, append_assoc, append-nil, Option, Some, None}
-use Rattle.std.specs.List.{flat_map, list_all}
+use Rattle.std.proofs.Common.{Result, ◌≡◌, ℕ, Bool, true, ◌&&◌, cond, eqb, List, [], ◌++◌, length, Ok, Err, refl, sym, ap, subst, ◌∙◌, append_assoc, append-nil, Option, Some, None}
 use Rattle.std.specs.Prelude.{is_none}
-use Rattle.std.specs.Int.{w16, w32, to_be_bytes}
+use Rattle.std.specs.Int.{w16, w32}
 use Rattle.std.proofs.lemmas.Bool.{and_parts, and_from, eqb-true}
 use Rattle.std.proofs.lemmas.List.{nil_from_length}
-use Rattle.std.proofs.lemmas.List.Concat.{flat_map-cons}
 use Rattle.class_format.specs.declared.fault.ClassFault.{ClassFault}
 use Rattle.class_format.specs.declared.fault.ClassFault.TheVariants.{PoolRef}
-use Rattle.class_file.specs.Spelling.{u2, counted}
-use Rattle.class_file.specs.Range.{are_bytes, is_u2, is_u4, counted_fits}
+use Rattle.class_file.specs.Spelling.{u2}
+use Rattle.class_file.specs.Range.{are_bytes, is_u2, is_u4}
 use Rattle.class_format.specs.declared.scope.Scope.{Scope}
-use Rattle.class_format.specs.Readers.{◌>>=◌, Reader, number, sized, unless, both, made, judged, times, in_turn, listed, others, offset, inner_scope, exactly, content_bytes, behind_length, index_that}
+use Rattle.class_format.specs.Readers.{◌>>=◌, Reader, number, sized, unless, both, made, judged, others, offset, inner_scope, exactly, content_bytes, behind_length, index_that}
 use Rattle.class_format.specs.LawsCodec.{IsBytes, IsBytes-none, IsBytes_from, are_bytes_from, bind_ok, passed, done, ok_is, Takes, Takes-then, IsCodec, u2_codec, sized_spelling, bytes_codec, bytes_back}
 
 -- a second part that depends on the first

@@ -1,5 +1,5 @@
 -- The reader of a constant pool reads the spellings of sound pools.
-use Rattle.std.proofs.Common.{◌≡◌, ℕ, zero, suc, ◌+◌, ◌<◌, Bool, true, false, ◌&&◌, not, cond, eqb, List, [], ◌∷◌, ◌++◌, length, Option, Some, None, Ok, refl, sym, ap, subst, ◌∙◌, append_assoc, arith, inl, inr}
+use Rattle.std.proofs.Common.{◌≡◌, ℕ, zero, suc, ◌+◌, ◌<◌, Bool, true, false, ◌&&◌, not, cond, eqb, List, [], ◌∷◌, ◌++◌, length, Some, None, Ok, refl, sym, ap, subst, ◌∙◌, append_assoc, arith, inl, inr}
 use Rattle.std.specs.List.{flat_map, list_all}
 use Rattle.std.specs.Int.{w16}
 use Rattle.std.proofs.lemmas.Bool.{cases_lt, eqb-false, ne_eqb, and_parts, and_from}
@@ -9,12 +9,11 @@ use Rattle.class_file.specs.Spelling.{u2, spelled_entry, spelled_pool}
 use Rattle.class_file.specs.Range.{is_u2, entry_fits, pool_fits}
 use Rattle.class_file.specs.Sound.{is_wide, is_second, seconds_follow, entry_is_sound, entries_agree, pool_is_sound}
 use Rattle.class_rules.specs.FirstUnsound.{first_unsound, first_unsound-none}
-use Rattle.class_format.specs.declared.fault.ClassFault.{ClassFault}
 use Rattle.class_format.specs.declared.fault.ClassFault.TheVariants.{PoolRef}
 use Rattle.class_format.specs.declared.scope.Scope.{Scope}
-use Rattle.class_format.specs.Readers.{◌>>=◌, number, unless}
+use Rattle.class_format.specs.Readers.{number, unless}
 use Rattle.class_format.specs.PoolReading.{after, entry_of, entries, counted_entries, pool}
-use Rattle.class_format.specs.LawsCodec.{IsBytes, bind_ok, ok_is, Takes, Takes-then, IsCodec, u2_codec}
+use Rattle.class_format.specs.LawsCodec.{IsBytes, bind_ok, Takes, Takes-then, IsCodec, u2_codec}
 use Rattle.class_format.specs.LawsEntries.{has_text, is_spelled, is_placed, stands, missed, entry_codec}
 use Rattle.class_format.specs.LawsParts.{no_fault}
 use Rattle.class_format.specs.LawsLists.{all_in_turn, turns_take, turns_again}

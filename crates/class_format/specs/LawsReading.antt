@@ -1,6 +1,6 @@
 -- Reading and spelling are inverse to one another: what is read is a well-formed class, and spelled so,
 -- and a well-formed class is read from its spelling.
-use Rattle.std.proofs.Common.{◌≡◌, ℕ, ◌-◌, Bool, true, false, ◌&&◌, cond, eqb, List, [], ◌∷◌, ◌++◌, length, Result, Ok, Err, refl, sym, ap, subst, ◌∙◌, append-nil}
+use Rattle.std.proofs.Common.{◌≡◌, ℕ, ◌-◌, Bool, true, ◌&&◌, eqb, List, [], ◌++◌, length, Result, Ok, Err, refl, sym, ap, subst, ◌∙◌, append-nil}
 use Rattle.std.specs.Prelude.{IfOk}
 use Rattle.std.specs.List.{list_all}
 use Rattle.std.specs.Int.{w16, w32}
@@ -8,18 +8,16 @@ use Rattle.std.proofs.lemmas.Bool.{and_parts, and_from, eqb-true}
 use Rattle.std.proofs.lemmas.List.{nil_from_length}
 use Rattle.class_file.specs.declared.pool.PoolEntry.{PoolEntry}
 use Rattle.class_file.specs.declared.types.ClassFile.{ClassFile}
-use Rattle.class_file.specs.declared.types.Member.{Member}
-use Rattle.class_file.specs.declared.types.Attribute.{Attribute}
 use Rattle.class_file.specs.Spelling.{u2, u4, counted, magic, spelled_pool, spelled_attribute, spelled_member, spelling}
-use Rattle.class_file.specs.Range.{is_u2, is_u4, counted_fits, attribute_fits, member_fits, pool_fits, is_writable}
+use Rattle.class_file.specs.Range.{is_u2, is_u4, counted_fits, attribute_fits, member_fits, pool_fits}
 use Rattle.class_file.specs.Text.{within}
 use Rattle.class_file.specs.Sound.{pool_is_sound, entries_agree}
-use Rattle.class_file.specs.WellFormed.{kind_in_class, attributes_agree, is_class_index, content_is_sound, field_is_sound, method_is_sound, has_known_version, has_sound_names, has_sound_parts, is_well_formed}
+use Rattle.class_file.specs.WellFormed.{kind_in_class, attributes_agree, is_class_index, content_is_sound, field_is_sound, method_is_sound, has_known_version, is_well_formed}
 use Rattle.class_format.specs.declared.fault.ClassFault.{ClassFault}
 use Rattle.class_format.specs.declared.fault.ClassFault.TheVariants.{Magic, Version, Trailing}
 use Rattle.class_format.specs.declared.scope.Scope.{Scope}
 use Rattle.class_format.specs.Gives.{Gives}
-use Rattle.class_format.specs.Readers.{◌>>=◌, Reader, number, both, made, judged, listed, index_that}
+use Rattle.class_format.specs.Readers.{Reader, number, both, made, judged, listed, index_that}
 use Rattle.class_format.specs.PoolReading.{pool}
 use Rattle.class_format.specs.PartReading.{attributes}
 use Rattle.class_format.specs.Roles.{is_this_index}

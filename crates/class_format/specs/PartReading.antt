@@ -1,5 +1,5 @@
 -- Reading attributes, fields and methods (JVMS 4.5 to 4.7). Each index is judged as soon as it is read.
-use Rattle.std.specs.Prelude.{ℕ, zero, suc, ◌+◌, ◌==◌, Bool, if◌then◌else◌, List, [], ◌∷◌, Option, Some, None, is_some, Result, Ok, Err}
+use Rattle.std.specs.Prelude.{ℕ, Bool, List, [], Option, Some, None, Ok}
 use Rattle.std.specs.List.{cons_option}
 use Rattle.std.specs.Int.{w16, w32}
 use Rattle.class_file.specs.declared.pool.PoolEntry.{PoolEntry}
@@ -18,7 +18,6 @@ use Rattle.class_file.specs.declared.types.VariableRow.{VariableRow}
 use Rattle.class_file.specs.Pool.{text_at}
 use Rattle.class_file.specs.Code.{code_fault}
 use Rattle.class_file.specs.WellFormed.{Kind, kind_in_field, kind_in_method, kind_after, CodeKind, kind_in_code, is_class_index, is_class_or_none, is_name_index, is_name_or_none}
-use Rattle.class_format.specs.declared.fault.ClassFault.{ClassFault}
 use Rattle.class_format.specs.declared.fault.ClassFault.TheVariants.{Code}
 use Rattle.class_format.specs.Roles.{is_text_index, is_type_index, is_signature_index, is_constant_index}
 use Rattle.class_format.specs.Readers.{◌>>=◌, Reader, number, sized, both, made, listed, in_turn, index_that, unless, others, behind_length}

@@ -1,12 +1,11 @@
 -- Reading a constant pool (JVMS 4.4).
-use Rattle.std.specs.Prelude.{ℕ, zero, suc, ◌+◌, ◌==◌, Bool, true, false, ◌&&◌, ◌||◌, if◌then◌else◌, List, [], ◌∷◌, Result, Ok, Err}
+use Rattle.std.specs.Prelude.{ℕ, zero, suc, ◌+◌, ◌==◌, Bool, false, ◌&&◌, ◌||◌, if◌then◌else◌, List, Ok, Err}
 use Rattle.std.specs.Int.{w16, w32, w64, cast_signed}
 use Rattle.class_file.specs.declared.pool.PoolEntry.{PoolEntry}
 use Rattle.class_file.specs.declared.pool.PoolEntry.TheVariants as entry
 use Rattle.class_file.specs.Text.{is_utf8}
 use Rattle.class_file.specs.Sound.{is_wide}
 use Rattle.class_rules.specs.FirstUnsound.{first_unsound}
-use Rattle.class_format.specs.declared.fault.ClassFault.{ClassFault}
 use Rattle.class_format.specs.declared.fault.ClassFault.TheVariants.{PoolRef, PoolTag, Utf8}
 use Rattle.class_format.specs.Readers.{◌>>=◌, Reader, byte, number, sized, both, made, in_turn, judged, unless}
 

@@ -1,5 +1,5 @@
 -- Reading a class file in byte order: what bytes are read as, and else the first fault (JVMS 4.1).
-use Rattle.std.specs.Prelude.{ℕ, ◌+◌, ◌-◌, ◌==◌, Bool, if◌then◌else◌, List, length, is_some, Result, Ok, Err}
+use Rattle.std.specs.Prelude.{ℕ, ◌+◌, ◌-◌, ◌==◌, if◌then◌else◌, List, length, Result, Ok, Err}
 use Rattle.std.specs.Int.{w16, w32}
 use Rattle.class_file.specs.declared.pool.PoolEntry.{PoolEntry}
 use Rattle.class_file.specs.declared.types.ClassFile.{ClassFile}

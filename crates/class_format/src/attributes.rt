@@ -75,11 +75,7 @@ fn held_at<'a>(
 }
 
 /// Where the code of an attribute is wrong, if it holds any.
-fn fault_in(
-    alloc: Global,
-    known: &Known<'_>,
-    content: &Content,
-) -> Result<Option<u32>, AllocError>
+fn fault_in(alloc: Global, known: &Known<'_>, content: &Content) -> Result<Option<u32>, AllocError>
     ensures { IfOk result (λ place. place ≡ part.fault_in known.now.major known.now.pool.now content.now) }
 {
     match content {

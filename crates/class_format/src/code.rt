@@ -104,13 +104,13 @@ pub(crate) fn code_at<'a>(
 {
     let (max_stack, rest) = u2_at(scope, bytes)?;
     let (max_locals, rest) = u2_at(scope, rest)?;
-    let (code, rest) = long_bytes_at(alloc, scope, rest)?;
+    let (code, rest) = long_bytes_at(scope, rest)?;
     let (entries, rest) = exceptions_at(alloc, known, scope, rest)?;
     let (attributes, rest) = code_attributes_at(alloc, known, scope, rest)?;
     let code = CodeAttr {
         max_stack,
         max_locals,
-        code,
+        code: Items::from_slice(alloc, code)?,
         entries,
         attributes,
     };

@@ -11,7 +11,7 @@ ghost use Rattle.class_format.specs.Roles.{serves, is_this_index, is_constant_in
 use crate::fault::ClassFault;
 use crate::numbers::u2_at;
 use crate::scope::Scope;
-use class_file::{PoolEntry, entry_at, class_at};
+use class_file::{PoolEntry, class_at, entry_at};
 use class_rules::TextForms;
 
 /// What an index of the pool must stand for where it is read.

@@ -1,15 +1,13 @@
 //! Reading numbers and bytes.
 
-ghost use Rattle.std.specs.Prelude.{◌≡◌, length};
+ghost use Rattle.std.specs.Prelude.{◌≡◌};
 ghost use Rattle.std.specs.Int.{w16, w32, w64};
 ghost use Rattle.class_format.specs.Gives.{GivesBy};
-ghost use Rattle.class_format.specs.Readers.{number, bytes_of, sized, byte, content_bytes, offset};
+ghost use Rattle.class_format.specs.Readers.{number, sized, byte, content_bytes};
 ghost use Rattle.class_format.specs.PoolReading.{two};
 
 use crate::fault::ClassFault;
 use crate::scope::Scope;
-use sqlite_items::Items;
-use std::alloc::Global;
 
 pub(crate) fn byte_at(scope: Scope, bytes: &[u8]) -> Result<(u8, &[u8]), ClassFault>
     ensures { GivesBy (λ x. (x.0, x.1.now)) result (byte scope bytes.now) }
@@ -63,35 +61,22 @@ pub(crate) fn two_at(scope: Scope, bytes: &[u8]) -> Result<((u16, u16), &[u8]), 
 }
 
 /// The bytes behind their length of four bytes.
-pub(crate) fn long_bytes_at(
-    alloc: Global,
-    scope: Scope,
-    bytes: &[u8],
-) -> Result<(Items<u8>, &[u8]), ClassFault>
-    ensures { GivesBy (λ x. (x.0, x.1.now)) result (sized w32 scope bytes.now) }
+pub(crate) fn long_bytes_at(scope: Scope, bytes: &[u8]) -> Result<(&[u8], &[u8]), ClassFault>
+    ensures { GivesBy (λ x. (x.0.now, x.1.now)) result (sized w32 scope bytes.now) }
 {
     let (count, rest) = u4_at(scope, bytes)?;
     let count = count as usize;
     if rest.len() < count {
         return Err(scope.cut);
     }
-    let (front, rest) = rest.split_at(count);
-    Ok((Items::from_slice(alloc, front)?, rest))
+    Ok(rest.split_at(count))
 }
 
 /// The content of an attribute behind its length, with its scope.
-pub(crate) fn content_at(
-    scope: Scope,
-    bytes: &[u8],
-) -> Result<((Scope, &[u8]), &[u8]), ClassFault>
+pub(crate) fn content_at(scope: Scope, bytes: &[u8]) -> Result<((Scope, &[u8]), &[u8]), ClassFault>
     ensures { GivesBy (λ x. ((x.0.0, x.0.1.now), x.1.now)) result (content_bytes scope bytes.now) }
 {
-    let (count, rest) = u4_at(scope, bytes)?;
-    let count = count as usize;
-    if rest.len() < count {
-        return Err(scope.cut);
-    }
-    let (content, rest) = rest.split_at(count);
+    let (content, rest) = long_bytes_at(scope, bytes)?;
     let inner = Scope {
         cut: ClassFault::AttributeLength(scope.end.saturating_sub(bytes.len())),
         end: scope.end.saturating_sub(rest.len()),

@@ -1,6 +1,6 @@
 //! Reading a constant pool (JVMS 4.4).
 
-ghost use Rattle.std.specs.Prelude.{◌≡◌, ◌<◌, ◌+◌, ◌^◌, length, IfOk};
+ghost use Rattle.std.specs.Prelude.{◌≡◌, ℕ, ◌<◌, ◌+◌, ◌^◌, length, IfOk};
 ghost use Rattle.std.specs.Int.{w16};
 ghost use Rattle.class_file.specs.Text.{is_utf8};
 ghost use Rattle.class_file.specs.Sound.{is_wide};
@@ -49,16 +49,10 @@ fn text_at(
 }
 
 #[tactic(auto, unfolding(crate::specs::PoolReading::tagged))]
-fn number_entry(
-    index: u16,
-    tag: u8,
-    scope: Scope,
-    bytes: &[u8],
-) -> Result<(PoolEntry, &[u8]), ClassFault>
+fn number_entry(tag: u8, scope: Scope, bytes: &[u8]) -> Result<(PoolEntry, &[u8]), ClassFault>
     requires { (2 < tag) × (tag < 7) }
-    ensures { GivesBy (λ x. (x.0, x.1.now)) result (tagged index tag scope bytes.now) }
+    ensures { (index : ℕ) → GivesBy (λ x. (x.0, x.1.now)) result (tagged index tag scope bytes.now) }
 {
-    let _ = index;
     match tag {
         3 => {
             let (bits, rest) = u4_at(scope, bytes)?;
@@ -118,7 +112,7 @@ fn tagged_entry(
             let (text, rest) = text_at(alloc, index, scope, bytes)?;
             Ok((PoolEntry::Utf8(text), rest))
         }
-        3..=6 => number_entry(index, tag, scope, bytes),
+        3..=6 => number_entry(tag, scope, bytes),
         7 => {
             let (name, rest) = u2_at(scope, bytes)?;
             Ok((PoolEntry::Class(name), rest))

@@ -50,7 +50,7 @@ fn version_at(scope: Scope, bytes: &[u8]) -> Result<((u16, u16), &[u8]), ClassFa
     }
     let (minor, rest) = u2_at(scope, rest)?;
     let (major, rest) = u2_at(scope, rest)?;
-    if major < 46 || major >= 50 {
+    if !(46..50).contains(&major) {
         return Err(ClassFault::Version(major));
     }
     Ok(((minor, major), rest))
@@ -99,11 +99,7 @@ fn parts_at<'a>(
 }
 
 #[tactic(auto, unfolding(crate::specs::Reading::class))]
-fn class_at(
-    alloc: Global,
-    scope: Scope,
-    bytes: &[u8],
-) -> Result<(ClassFile, &[u8]), ClassFault>
+fn class_at(alloc: Global, scope: Scope, bytes: &[u8]) -> Result<(ClassFile, &[u8]), ClassFault>
     ensures { GivesBy (λ x. (x.0, x.1.now)) result (class scope bytes.now) }
 {
     let ((minor, major), rest) = version_at(scope, bytes)?;

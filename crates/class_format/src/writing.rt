@@ -11,9 +11,8 @@ ghost use Rattle.class_file.specs.Range.{is_writable, entry_fits, pool_fits, cou
 
 use class_file::{
     Attribute, ClassFile, CodeAttr, CodeAttribute, CodeContent, Content, ExceptionEntry,
-    InnerClass, LineRow, Member, VariableRow,
+    InnerClass, LineRow, Member, PoolEntry, VariableRow,
 };
-use class_file::PoolEntry;
 use std::alloc::{AllocError, Global};
 
 /// The bytes that a class file begins with.

@@ -8,4 +8,4 @@ abbrev pub invariant-loop : goal.invariant-loop
 invariant-loop l =
     (earlier : List (List ℕ)) × (Marks l.seen earlier
     × IsLeft (attribute (kinds_in l.place) l.known.major l.known.pool.now (position_in l.place)) (with_name l.known.pool.now) earlier (l.count - l.counter) l.attributes l.scope l.rest
-        (attributes (kinds_in l.place) l.known.major l.known.pool.now (position_in l.place) l.scope l.bytes))
+    (attributes (kinds_in l.place) l.known.major l.known.pool.now (position_in l.place) l.scope l.bytes))

@@ -1,6 +1,6 @@
 use Rattle.std.proofs.Common.{◌≡◌, ap, ◌∙◌}
 use Rattle.std.proofs.lemmas.Grind.{common_steps}
-use Rattle.std.proofs.Common.{rules, arith}
+use Rattle.std.proofs.Common.{arith}
 use Rattle.class_file.specs.Spelling.{spelling}
 use Rattle.class_format.specs.Reading.{reading}
 use Rattle.class_format.specs.LawsReading.{reading_again}
