@@ -1,4 +1,8 @@
-pub mod Refused
-pub mod Weavings
+pub mod Lists
+pub mod Named
+pub mod Read
 pub mod Placed
-pub mod Steps
+pub mod Decoded
+pub mod Utf8
+pub mod Classes
+pub mod Weavings
