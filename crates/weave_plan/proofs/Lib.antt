@@ -3,6 +3,9 @@ pub mod Named
 pub mod Read
 pub mod Placed
 pub mod Decoded
+pub mod Characters
+pub mod Fronts
 pub mod Utf8
 pub mod Classes
+pub mod Generated
 pub mod Weavings

@@ -1,12 +1,12 @@
 -- What the files are, up to a place.
-use Rattle.std.proofs.Common.{◌≡◌, ℕ, ◌+◌, ◌<◌, Bool, true, false, ◌&&◌, List, [], ◌∷◌, ◌++◌, length, take, drop, map, get_or, Option, Some, None, Result, Ok, Err, refl, sym, ap, subst, ◌∙◌, arith}
-use Rattle.std.specs.Prelude.{slice_get, MatchBool}
+use Rattle.std.proofs.Common.{◌≡◌, ℕ, ◌+◌, ◌<◌, Bool, true, false, ◌&&◌, List, [], ◌∷◌, ◌++◌, length, take, drop, map, get_or, Option, Some, None, Result, Ok, Err, refl, sym, ap, subst, ◌∙◌, arith, append-nil}
+use Rattle.std.specs.Prelude.{slice_get, MatchBool, IfErr}
 use Rattle.std.specs.List.{AllZip, find}
 use Rattle.std.specs.Result.{is_err}
 use Rattle.std.proofs.lemmas.List.{take_more, map-append, length-take, length-map}
 use Rattle.aj_outside.specs.Files.{Files}
 use Rattle.class_file.specs.declared.types.ClassFile.{ClassFile}
-use Rattle.class_format.specs.declared.fault.ClassFault.{ClassFault}
+use Rattle.jp_model.specs.declared.first_aspect.FirstAspect.{FirstAspect}
 use Rattle.class_format.specs.Reading.{reading}
 use Rattle.jp_model.specs.Input.{is_class_file}
 use Rattle.weave_plan.specs.declared.planning.NamedFile.{NamedFile}
@@ -68,3 +68,50 @@ refused_at files i file (plan_fault.Class at fault) lt e none h =
     })
 refused_at files i file (plan_fault.NotBuilt at) lt e none h = absurd h
 refused_at files i file plan_fault.Memory lt e none h = tt
+
+-- what holds of a fault that is passed on
+pub err_of : {T : Type 0} (P : PlanFault → Type 0) (r : Result T PlanFault) (e fault : PlanFault) → r ≡ Err e → e ≡ fault → P fault → IfErr r P
+err_of {T} P r e fault was same h = subst (λ (x : Result T PlanFault). IfErr x P) (sym was) (subst P (sym same) h)
+
+-- ---- the classes and the last aspect
+
+last_more : {X : Type 0} (found : Option X) (xs : List X) (x : X) → last_of found (xs ++ x ∷ []) ≡ Some x
+last_more found [] x = refl
+last_more found (y ∷ xs) x = last_more (Some y) xs x
+
+classes_append : (xs ys : List Parsed) → classes_in (xs ++ ys) ≡ classes_in xs ++ classes_in ys
+classes_append [] ys = refl
+classes_append (Class c n ∷ xs) ys = ap (λ t. c ∷ t) (classes_append xs ys)
+classes_append (Aspect a ∷ xs) ys = classes_append xs ys
+classes_append (Other ∷ xs) ys = classes_append xs ys
+
+aspects_append : (xs ys : List Parsed) → aspects_in (xs ++ ys) ≡ aspects_in xs ++ aspects_in ys
+aspects_append [] ys = refl
+aspects_append (Class c n ∷ xs) ys = aspects_append xs ys
+aspects_append (Aspect a ∷ xs) ys = ap (λ t. a ∷ t) (aspects_append xs ys)
+aspects_append (Other ∷ xs) ys = aspects_append xs ys
+
+-- the classes and the last aspect of these files
+abbrev pub AreParts : List ClassFile → Option FirstAspect → List Parsed → Type 0
+AreParts classes aspect files = (classes ≡ classes_in files) × (aspect ≡ last_of None (aspects_in files))
+
+pub class_more : (files : List Parsed) (file : Parsed) (c : ClassFile) (n : ℕ) (classes new : List ClassFile) (aspect : Option FirstAspect) → file ≡ Class c n → AreParts classes aspect files → new ≡ classes ++ c ∷ [] → AreParts new aspect (files ++ file ∷ [])
+class_more files file c n classes new aspect is h e =
+    subst (λ (f : Parsed). AreParts new aspect (files ++ f ∷ [])) (sym is) (
+      e ∙ ap (λ (cs : List ClassFile). cs ++ c ∷ []) h.0 ∙ sym (classes_append files (Class c n ∷ [])),
+      h.1 ∙ ap (last_of None) (sym (aspects_append files (Class c n ∷ []) ∙ append-nil (aspects_in files))),
+    )
+
+pub aspect_more : (files : List Parsed) (file : Parsed) (a : FirstAspect) (classes : List ClassFile) (aspect : Option FirstAspect) → file ≡ Aspect a → AreParts classes aspect files → AreParts classes (Some a) (files ++ file ∷ [])
+aspect_more files file a classes aspect is h =
+    subst (λ (f : Parsed). AreParts classes (Some a) (files ++ f ∷ [])) (sym is) (
+      h.0 ∙ sym (classes_append files (Aspect a ∷ []) ∙ append-nil (classes_in files)),
+      sym (ap (last_of None) (aspects_append files (Aspect a ∷ [])) ∙ last_more None (aspects_in files) a),
+    )
+
+pub other_more : (files : List Parsed) (file : Parsed) (classes : List ClassFile) (aspect : Option FirstAspect) → file ≡ Other → AreParts classes aspect files → AreParts classes aspect (files ++ file ∷ [])
+other_more files file classes aspect is h =
+    subst (λ (f : Parsed). AreParts classes aspect (files ++ f ∷ [])) (sym is) (
+      h.0 ∙ sym (classes_append files (Other ∷ []) ∙ append-nil (classes_in files)),
+      h.1 ∙ ap (last_of None) (sym (aspects_append files (Other ∷ []) ∙ append-nil (aspects_in files))),
+    )
