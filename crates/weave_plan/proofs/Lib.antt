@@ -8,4 +8,6 @@ pub mod Fronts
 pub mod Utf8
 pub mod Classes
 pub mod Generated
+pub mod Steps
+pub mod Refused
 pub mod Weavings
