@@ -1,15 +1,22 @@
 -- What the files of a folder say: classes and aspects, and the first file that is not of a form that
 -- is built.
-use Rattle.std.specs.Prelude.{◌≡◌, ℕ, ◌<◌, ◌&&◌, ◌||◌, not, Bool, true, IsTrue, MatchBool, List, [], ◌∷◌, codes, Some, slice_get}
-use Rattle.std.specs.List.{filter, ends_with}
-use Rattle.std.specs.Prelude.{nat_eq}
+use Rattle.std.specs.Prelude.{◌≡◌, ℕ, ◌<◌, ◌&&◌, ◌||◌, not, if◌then◌else◌, nat_eq, nat_le, nat_lt, Bool, true, false, IsTrue, MatchBool, List, [], ◌∷◌, length, take, codes, Some, slice_get}
+use Rattle.std.specs.List.{filter, find, list_all, list_any, ends_with}
+use Rattle.std.specs.Str.{bytes_eq}
 use Rattle.aj_outside.specs.Files.{Files, is_under}
+use Rattle.class_file.specs.declared.pool.PoolEntry.{PoolEntry}
+use Rattle.class_file.specs.declared.pool.PoolEntry.TheVariants as entry
 use Rattle.class_file.specs.declared.types.ClassFile.{ClassFile}
+use Rattle.class_file.specs.declared.types.Member.{Member}
 use Rattle.class_file.specs.Spelling.{spelling}
-use Rattle.class_file.specs.Pool.{this_name}
+use Rattle.class_file.specs.Pool.{text_at, this_name, super_name}
+use Rattle.class_file.specs.Sound.{is_some_that}
 use Rattle.class_file.specs.WellFormed.{is_well_formed}
+use Rattle.class_file.specs.FirstForm.{is_first_form}
 use Rattle.jp_model.specs.declared.first_aspect.FirstAspect.{FirstAspect}
 use Rattle.jp_model.specs.AspectText.{SpellsAspect}
+use Rattle.jp_model.specs.Values.{object_class}
+use Rattle.jp_model.specs.Headline.{is_generated}
 
 abbrev pub is_class_file : List ℕ → Bool
 is_class_file name = ends_with nat_eq name (codes ".class")
@@ -28,13 +35,13 @@ is_input name = is_class_file name || is_aspect_file name
 abbrev pub inputs_in : List ℕ → Files → Files
 inputs_in folder files = filter (λ f. is_under folder f.0 && is_input f.0) files
 
--- the bytes are the spelling of a class file
+-- the bytes are those of this class file
 pub record SpellsClass (bytes : List ℕ) (c : ClassFile) : Type 0 where
   pub formed : IsTrue (is_well_formed c)
   pub spelled : bytes ≡ spelling c
 
--- The files say these classes and these aspects, in order: each class file spells a class of the form,
--- each aspect file is the text of an aspect of the form.
+-- The files say these classes and these aspects, in order: each class file spells a class, each aspect
+-- file is the text of an aspect of the form.
 abbrev pub Reads : Files → List ClassFile → List FirstAspect → Type 0
 Reads [] classes aspects = (classes ≡ []) × (aspects ≡ [])
 Reads (f ∷ files) classes aspects =
@@ -42,9 +49,48 @@ Reads (f ∷ files) classes aspects =
     ((c : ClassFile) × (rest : List ClassFile) × (classes ≡ c ∷ rest) × SpellsClass f.1 c × Reads files rest aspects)
     ((a : FirstAspect) × (rest : List FirstAspect) × (aspects ≡ a ∷ rest) × SpellsAspect f.1 a × Reads files classes rest)
 
+-- ---- the first of these files
+
+-- the file of this name is the first that passes the test
+pub record IsFirst (test : (List ℕ × List ℕ) → Bool) (files : Files) (name : List ℕ) : Type 0 where
+  pub bytes : List ℕ
+  pub found : find test files ≡ Some (name, bytes)
+
+-- the file is longer than 16,777,216 bytes
+abbrev pub is_big : (List ℕ × List ℕ) → Bool
+is_big file = nat_lt 16777216 (length file.1)
+
+-- one of these is a file of an aspect
+abbrev pub has_aspects : Files → Bool
+has_aspects files = list_any (λ f. is_other_file f.0) files
+
+-- ---- classes that stay as they are where there is no aspect
+
+-- the text of the index is no name that is left to generated members
+abbrev pub is_free : List PoolEntry → ℕ → Bool
+is_free pool index = not (is_generated (text_at pool index))
+
+abbrev pub entry_is_free : List PoolEntry → PoolEntry → Bool
+entry_is_free pool (entry.Class name) = is_free pool name
+entry_is_free pool (entry.NameAndType name descriptor) = is_free pool name && is_free pool descriptor
+entry_is_free pool _ = true
+
+abbrev pub member_is_free : List PoolEntry → Member → Bool
+member_is_free pool m = is_free pool m.name && is_free pool m.descriptor
+
+-- no class, member or descriptor that it names or declares has `ajc$` in it
+abbrev pub has_free_names : ClassFile → Bool
+has_free_names c =
+    list_all (entry_is_free c.pool) c.pool && (list_all (member_is_free c.pool) c.fields && list_all (member_is_free c.pool) c.methods)
+
+-- a direct subclass of Object without interfaces, and with free names
+abbrev pub is_plain_class : ClassFile → Bool
+is_plain_class c =
+    is_some_that (bytes_eq object_class) (super_name c) && (nat_eq (length c.interfaces) 0 && has_free_names c)
+
 -- ---- what is built
 
--- a class file among these has the form and this name
+-- a class file among these has a class of this name
 pub record HasClassNamed (files : Files) (name : List ℕ) : Type 0 where
   pub place : ℕ
   pub file : List ℕ × List ℕ
@@ -54,22 +100,24 @@ pub record HasClassNamed (files : Files) (name : List ℕ) : Type 0 where
   pub spelled : SpellsClass file.1 class
   pub named : this_name class ≡ Some name
 
--- One of the earlier files is of this kind: at most one class file and one aspect file are built.
-abbrev pub HasEarlier : (List ℕ → Bool) → Files → ℕ → Type 0
-HasEarlier is_kind files place = (earlier : ℕ) × (file : List ℕ × List ℕ) × (earlier < place) × (slice_get files earlier ≡ Some file) × (is_kind file.0 ≡ true)
+-- Beside an aspect a class is built where it is of the first form and its file has at most 65,536 bytes,
+-- and without one where it is plain.
+abbrev pub has_built_form : Bool → List ℕ → ClassFile → Bool
+has_built_form aspects bytes c = if aspects then is_first_form c && nat_le (length bytes) 65536 else is_plain_class c
 
--- the class file at a place is built
+-- The class file at a place is built: its class is of the form, and no earlier one has its name.
 pub record IsBuiltClass (files : Files) (place : ℕ) (bytes : List ℕ) : Type 0 where
   pub class : ClassFile
   pub spelled : SpellsClass bytes class
-  pub first : ¬ (HasEarlier is_class_file files place)
+  pub form : IsTrue (has_built_form (has_aspects files) bytes class)
+  pub own_name : (name : List ℕ) → this_name class ≡ Some name → ¬ (HasClassNamed (take place files) name)
 
--- The aspect file at a place is built. Its name is that of no class, and no class hides java.lang's
--- System from its body.
+-- The aspect file at a place is built: it is the first one, its name is that of no class, and no class
+-- hides java.lang's System from its body.
 pub record IsBuiltAspect (files : Files) (place : ℕ) (bytes : List ℕ) : Type 0 where
   pub aspect : FirstAspect
   pub spelled : SpellsAspect bytes aspect
-  pub first : ¬ (HasEarlier is_other_file files place)
+  pub first : has_aspects (take place files) ≡ false
   pub own_name : ¬ (HasClassNamed files aspect.name)
   pub system : ¬ (HasClassNamed files (codes "System"))
 

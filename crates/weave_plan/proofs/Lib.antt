@@ -1,4 +1,13 @@
+pub mod Lists
+pub mod Named
+pub mod Read
+pub mod Placed
+pub mod Decoded
+pub mod Characters
+pub mod Fronts
+pub mod Utf8
+pub mod Classes
+pub mod Generated
+pub mod Steps
 pub mod Refused
 pub mod Weavings
-pub mod Placed
-pub mod Steps

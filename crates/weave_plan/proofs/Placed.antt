@@ -1,60 +1,37 @@
--- A file that goes to its place among files in the byte order of their names.
-use Rattle.std.proofs.Common.{◌≡◌, ℕ, suc, ◌+◌, ◌<◌, ◌≤◌, List, [], ◌∷◌, ◌++◌, length, take, drop, set, Result, Ok, Err, refl, sym, ap, subst, ◌∙◌, arith}
-use Rattle.std.specs.List.{insert}
+-- Files that go to their places among files in the byte order of their names.
+use Rattle.std.proofs.Common.{◌≡◌, ℕ, ◌+◌, ◌<◌, List, [], ◌∷◌, ◌++◌, length, take, map, get_or, refl, sym, ap, ◌∙◌}
 use Rattle.std.specs.declared.cmp.Ordering.{Ordering}
 use Rattle.std.specs.declared.cmp.Ordering.TheVariants.{Less, Equal, Greater}
 use Rattle.std.specs.Ordering.{match_ordering}
+use Rattle.std.specs.BTreeMap.{insert_entry}
+use Rattle.std.proofs.lemmas.List.{take_more, map-append}
 use Rattle.aj_outside.specs.Files.{Files, byte_order, put_file, put_each}
-use Rattle.aj_outside.specs.FileLaws.{byte_order-equal}
-use Rattle.weave_plan.specs.declared.planning.NamedFile.{NamedFile}
-use Rattle.weave_plan.specs.Places.{place_from}
-use Rattle.weave_plan.specs.Plan.{files_of}
+use Rattle.class_file.specs.declared.types.ClassFile.{ClassFile}
+use Rattle.jp_model.specs.Headline.{output}
 
--- what a place says, as the number of files before it
-abbrev IsPlaced : NamedFile → List NamedFile → ℕ → Result ℕ ℕ → Type 0
-IsPlaced f files start (Ok place) = (k : ℕ) × (place ≡ start + k) × (k < length files) × (files_of (set files k f) ≡ put_file (files_of files) f.name f.bytes.items)
-IsPlaced f files start (Err place) = (k : ℕ) × (place ≡ start + k) × (k ≤ length files) × (files_of (take k files ++ f ∷ drop k files) ≡ put_file (files_of files) f.name f.bytes.items)
+-- the files of a map
+abbrev pub seen : {V : Type 0} → (V → List ℕ) → List (List ℕ × V) → Files
+seen bytes entries = map (λ e. (e.0, bytes e.1)) entries
 
-next : (f other : NamedFile) (files : List NamedFile) (start : ℕ) (r : Result ℕ ℕ) → byte_order f.name other.name ≡ Greater → IsPlaced f files (start + 1) r → IsPlaced f (other ∷ files) start r
-next f other files start (Ok place) o h =
-    let here : put_file (files_of (other ∷ files)) f.name f.bytes.items ≡ (other.name, other.bytes.items) ∷ put_file (files_of files) f.name f.bytes.items =
-    ap (λ (x : Ordering). match_ordering x ((f.name, f.bytes.items) ∷ files_of (other ∷ files)) ((other.name, f.bytes.items) ∷ files_of files) ((other.name, other.bytes.items) ∷ put_file (files_of files) f.name f.bytes.items)) o in
-    (suc h.0, omega (arith, h.1), omega (arith, h.2), ap (λ (x : Files). (other.name, other.bytes.items) ∷ x) h.3 ∙ sym here)
-next f other files start (Err place) o h =
-    let here : put_file (files_of (other ∷ files)) f.name f.bytes.items ≡ (other.name, other.bytes.items) ∷ put_file (files_of files) f.name f.bytes.items =
-    ap (λ (x : Ordering). match_ordering x ((f.name, f.bytes.items) ∷ files_of (other ∷ files)) ((other.name, f.bytes.items) ∷ files_of files) ((other.name, other.bytes.items) ∷ put_file (files_of files) f.name f.bytes.items)) o in
-    (suc h.0, omega (arith, h.1), omega (arith, h.2), ap (λ (x : Files). (other.name, other.bytes.items) ∷ x) h.3 ∙ sym here)
-
-placed_from : (f : NamedFile) (files : List NamedFile) (start : ℕ) → IsPlaced f files start (place_from f.name start files)
-placed_from f [] start = (0, omega arith, omega arith, refl)
-placed_from f (other ∷ files) start = by (byte_order f.name other.name) refl (placed_from f files (start + 1))
+-- a file that is inserted into a map is put
+pub inserted : {V : Type 0} (bytes : V → List ℕ) (entries : List (List ℕ × V)) (name : List ℕ) (v : V) → seen bytes (insert_entry byte_order entries name v) ≡ put_file (seen bytes entries) name (bytes v)
+inserted bytes [] name v = refl
+inserted {V} bytes (e ∷ entries) name v = by (byte_order name e.0) (inserted bytes entries name v)
   where
-    by : (o : Ordering) → byte_order f.name other.name ≡ o → IsPlaced f files (start + 1) (place_from f.name (start + 1) files) → IsPlaced f (other ∷ files) start (match_ordering o (Err start) (Ok start) (place_from f.name (start + 1) files))
-    by Less e later =
-        let here : put_file (files_of (other ∷ files)) f.name f.bytes.items ≡ (f.name, f.bytes.items) ∷ files_of (other ∷ files) =
-        ap (λ (x : Ordering). match_ordering x ((f.name, f.bytes.items) ∷ files_of (other ∷ files)) ((other.name, f.bytes.items) ∷ files_of files) ((other.name, other.bytes.items) ∷ put_file (files_of files) f.name f.bytes.items)) e in
-        (0, omega arith, omega arith, sym here)
-    by Equal e later =
-        let here : put_file (files_of (other ∷ files)) f.name f.bytes.items ≡ (other.name, f.bytes.items) ∷ files_of files =
-        ap (λ (x : Ordering). match_ordering x ((f.name, f.bytes.items) ∷ files_of (other ∷ files)) ((other.name, f.bytes.items) ∷ files_of files) ((other.name, other.bytes.items) ∷ put_file (files_of files) f.name f.bytes.items)) e in
-        (0, omega arith, omega arith, ap (λ (n : List ℕ). (n, f.bytes.items) ∷ files_of files) (byte_order-equal f.name other.name e) ∙ sym here)
-    by Greater e later = next f other files start (place_from f.name (start + 1) files) e later
+    by : (o : Ordering) → seen bytes (insert_entry byte_order entries name v) ≡ put_file (seen bytes entries) name (bytes v) → seen bytes (match_ordering o ((name, v) ∷ e ∷ entries) ((e.0, v) ∷ entries) (e ∷ insert_entry byte_order entries name v)) ≡ match_ordering o ((name, bytes v) ∷ (e.0, bytes e.1) ∷ seen bytes entries) ((e.0, bytes v) ∷ seen bytes entries) ((e.0, bytes e.1) ∷ put_file (seen bytes entries) name (bytes v))
+    by Less later = refl
+    by Equal later = refl
+    by Greater later = ap (λ (fs : Files). (e.0, bytes e.1) ∷ fs) later
 
--- the place is one of the files, and the file that is set there is put
-pub set_placed : (f : NamedFile) (files : List NamedFile) (place : ℕ) → Ok place ≡ place_from f.name 0 files → (place < length files) × (files_of (set files place f) ≡ put_file (files_of files) f.name f.bytes.items)
-set_placed f files place e =
-    let h : IsPlaced f files 0 (Ok place) = subst (IsPlaced f files 0) (sym e) (placed_from f files 0) in
-    let same : h.0 ≡ place = omega (arith, h.1) in
-    subst (λ (k : ℕ). (k < length files) × (files_of (set files k f) ≡ put_file (files_of files) f.name f.bytes.items)) same (h.2, h.3)
-
--- the file that is inserted at the place is put
-pub insert_placed : (f : NamedFile) (files : List NamedFile) (place : ℕ) → Err place ≡ place_from f.name 0 files → (place ≤ length files) × (files_of (insert files place f) ≡ put_file (files_of files) f.name f.bytes.items)
-insert_placed f files place e =
-    let h : IsPlaced f files 0 (Err place) = subst (IsPlaced f files 0) (sym e) (placed_from f files 0) in
-    let same : h.0 ≡ place = omega (arith, h.1) in
-    subst (λ (k : ℕ). (k ≤ length files) × (files_of (insert files k f) ≡ put_file (files_of files) f.name f.bytes.items)) same (h.2, h.3)
-
--- one more file is put behind others
-pub put_each_more : (files others : Files) (name bytes : List ℕ) → put_each files (others ++ (name, bytes) ∷ []) ≡ put_file (put_each files others) name bytes
+put_each_more : (files others : Files) (name bytes : List ℕ) → put_each files (others ++ (name, bytes) ∷ []) ≡ put_file (put_each files others) name bytes
 put_each_more files [] name bytes = refl
 put_each_more files (other ∷ others) name bytes = put_each_more (put_file files other.0 other.1) others name bytes
+
+-- the file of one more class is put
+pub put_more : (folder : List ℕ) (classes : List ClassFile) (i : ℕ) (c : ClassFile) (files new : Files) → i < length classes → c ≡ get_or classes i c → files ≡ put_each [] (map (output folder) (take i classes)) → new ≡ put_file files (output folder c).0 (output folder c).1 → new ≡ put_each [] (map (output folder) (take (i + 1) classes))
+put_more folder classes i c files new lt e h n =
+    let more : take (i + 1) classes ≡ take i classes ++ c ∷ [] = take_more classes i c lt ∙ ap (λ (x : ClassFile). take i classes ++ x ∷ []) (sym e) in
+    let mapped : map (output folder) (take (i + 1) classes) ≡ map (output folder) (take i classes) ++ output folder c ∷ [] =
+    ap (map (output folder)) more ∙ map-append (output folder) (take i classes) (c ∷ []) in
+    n ∙ ap (λ (x : Files). put_file x (output folder c).0 (output folder c).1) h
+    ∙ sym (ap (put_each []) mapped ∙ put_each_more [] (map (output folder) (take i classes)) (output folder c).0 (output folder c).1)

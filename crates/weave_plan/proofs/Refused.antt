@@ -1,36 +1,47 @@
 -- The first file that isn't built, and what all files say where each is built.
-use Rattle.std.proofs.Common.{◌≡◌, ◌≢◌, ℕ, zero, suc, ◌+◌, ◌-◌, ◌<◌, ◌≤◌, Bool, true, false, ltb, cond, ◌||◌, not, List, [], ◌∷◌, map, Option, Some, None, refl, sym, ap, subst, ◌∙◌, arith, ◌⊎◌, inl, inr}
-use Rattle.std.specs.Prelude.{codes, slice_get, MatchBool, IsTrue}
-use Rattle.std.specs.List.{AllZip, AllByRecursion}
+use Rattle.std.proofs.Common.{◌≡◌, ◌≢◌, ℕ, zero, suc, ◌+◌, ◌<◌, ◌≤◌, Bool, true, false, cond, ◌&&◌, ◌||◌, not, List, [], ◌∷◌, ◌++◌, length, take, map, Option, Some, None, refl, sym, ap, ap₂, subst, ◌∙◌, arith, ◌⊎◌, inl, inr, append_assoc, length-append}
+use Rattle.std.specs.Prelude.{codes, slice_get, MatchBool, IsTrue, nat_le}
+use Rattle.std.specs.List.{AllZip, AllByRecursion, list_any, find}
 use Rattle.std.specs.Option.{option_to_list}
 use Rattle.std.specs.Str.{bytes_eq}
 use Rattle.std.proofs.Math.Logic.{⊎_elim}
-use Rattle.std.proofs.lemmas.Bool.{and_parts, or_cases, or_left, or_right, ltb-true, ltb-false, true≢false}
+use Rattle.std.proofs.Math.Seq.{take-append_seam}
+use Rattle.std.proofs.lemmas.Bool.{and_parts, and_from, or_cases, or_left, or_right, cases_lt, cases_eq, false_from_ne_true, true≢false}
+use Rattle.std.proofs.lemmas.List.Folds.{list_any-append}
+use Rattle.std.proofs.lemmas.Option.{slice_get_within}
 use Rattle.std.proofs.lemmas.Slice.Eq.{bytes_eq-Decides}
 use Rattle.aj_outside.specs.Files.{Files}
 use Rattle.class_file.specs.declared.types.ClassFile.{ClassFile}
 use Rattle.class_file.specs.Pool.{this_name}
 use Rattle.class_file.specs.Sound.{is_some_that}
+use Rattle.class_file.specs.Text.{is_class_name}
+use Rattle.class_file.specs.WellFormed.{is_well_formed}
 use Rattle.class_file.specs.FirstForm.{is_first_form}
 use Rattle.jp_model.specs.declared.first_aspect.FirstAspect.{FirstAspect}
 use Rattle.jp_model.specs.AspectText.{is_first_aspect, aspect_of}
-use Rattle.jp_model.specs.Headline.{IsWeaving}
-use Rattle.jp_model.specs.Input.{is_class_file, is_other_file, SpellsClass, Reads, HasClassNamed, HasEarlier, IsBuiltClass, IsBuiltAspect, IsBuiltAt, AllBuilt, IsFirstNotBuilt}
+use Rattle.jp_model.specs.Input.{is_class_file, is_other_file, has_aspects, has_built_form, is_plain_class, SpellsClass, Reads, HasClassNamed, IsBuiltClass, IsBuiltAspect, IsBuiltAt, AllBuilt, IsFirstNotBuilt}
+use Rattle.jp_model.specs.Headline.{AreApart, IsWeaving}
 use Rattle.weave_plan.specs.declared.parsing.Parsed.{Parsed}
 use Rattle.weave_plan.specs.declared.parsing.Parsed.TheVariants.{Class, Aspect, Other}
-use Rattle.weave_plan.specs.Parsed.{SpellsOneClass, SpellsOneAspect, SpellsNoClass, SpellsNoAspect, IsParsed, is_class_named, has_class_named, is_hidden, first_refused, classes_in, aspects_in, last_of}
-use Rattle.weave_plan.specs.Fit.{Fit, IsWoven}
+use Rattle.weave_plan.specs.Faults.{is_faulty, AreTaken}
+use Rattle.weave_plan.specs.Parsed.{SpellsOneClass, SpellsOneAspect, SpellsNoAspect, IsParsedClass, IsParsedAspect, IsParsed, IsFormed, is_class_named, has_class_named, is_aspect, has_aspect, has_form, is_new, is_hidden, is_built, first_refused, classes_in, aspects_in, last_of}
+use Rattle.weave_plan.specs.Fit.{Fit, FitAspect, IsWoven}
 use Rattle.weave_plan.specs.Plan.{IsPlan}
+use Rattle.weave_plan.proofs.Lists.{slice_get_behind, zip_more}
+use Rattle.weave_plan.proofs.Classes.{is_named_of}
 
--- ---- choices
+abbrev File : Type 0
+File = List ℕ × List ℕ
+
+-- ---- cases
 
 match_true : (P Q : Type 0) (b : Bool) → b ≡ true → P → MatchBool b P Q
-match_true P Q true e p = p
-match_true P Q false e p = absurd cc
+match_true P Q true e h = h
+match_true P Q false e h = absurd cc
 
 match_false : (P Q : Type 0) (b : Bool) → b ≡ false → Q → MatchBool b P Q
-match_false P Q true e q = absurd cc
-match_false P Q false e q = q
+match_false P Q true e h = absurd cc
+match_false P Q false e h = h
 
 of_true : (P Q : Type 0) (b : Bool) → b ≡ true → MatchBool b P Q → P
 of_true P Q true e h = h
@@ -52,15 +63,17 @@ or_false : (x y : Bool) → (x || y) ≡ false → (x ≡ false) × (y ≡ false
 or_false true y h = absurd cc
 or_false false y h = (refl, h)
 
-cond_none : {X : Type 0} (b : Bool) (x : X) (o : Option X) → cond b (Some x) o ≡ None → (b ≡ false) × (o ≡ None)
-cond_none true x o h = absurd cc
-cond_none false x o h = (refl, h)
+not_only : (x : Bool) → not x ≡ true → x ≡ false
+not_only true h = absurd cc
+not_only false h = refl
 
-not_false : (b : Bool) → b ≡ false → not b ≡ true
-not_false b e = ap not e
+not_not : (x : Bool) → not x ≡ false → x ≡ true
+not_not true h = refl
+not_not false h = absurd cc
 
-not_true : (b : Bool) → b ≡ true → not b ≡ false
-not_true b e = ap not e
+cond_none : {X : Type 0} (b : Bool) (x : X) (o : Option X) → cond b o (Some x) ≡ None → (b ≡ true) × (o ≡ None)
+cond_none true x o h = (refl, h)
+cond_none false x o h = absurd cc
 
 some_same : {X : Type 0} (x y : X) → Some x ≡ Some y → x ≡ y
 some_same x y h = cc
@@ -69,23 +82,39 @@ some_of : {X : Type 0} (test : X → Bool) (o : Option X) → is_some_that test 
 some_of test None h = absurd cc
 some_of test (Some x) h = (x, refl, h)
 
-less_more : (n k : ℕ) → k < n + 1 → (k < n) ⊎ (k ≡ n)
-less_more n k h = by (ltb k n) refl
-  where
-    by : (b : Bool) → ltb k n ≡ b → (k < n) ⊎ (k ≡ n)
-    by true e = inl (ltb-true k n e)
-    by false e = let ge : n ≤ k = ltb-false k n e in inr (omega arith)
+-- ---- the class of a file
+
+class_of : (f : File) (c : ClassFile) (n : ℕ) → IsParsed f (Class c n) → (is_class_file f.0 ≡ true) × SpellsOneClass f.1 c n
+class_of f c n q = true_only (SpellsOneClass f.1 c n) (is_class_file f.0) q
+
+aspect_in : (f : File) (a : FirstAspect) → IsParsed f (Aspect a) → (is_class_file f.0 ≡ false) × SpellsOneAspect f.1 a
+aspect_in f a q = false_only (SpellsOneAspect f.1 a) (is_class_file f.0) q
+
+other_in : (f : File) → IsParsed f Other → (is_class_file f.0 ≡ false) × SpellsNoAspect f.1
+other_in f q = false_only (SpellsNoAspect f.1) (is_class_file f.0) q
+
+formed_one : (f : File) (p : Parsed) → IsParsed f p → IsFormed p
+formed_one f (Class c n) q = (class_of f c n q).1.spelled.formed
+formed_one f (Aspect a) q = tt
+formed_one f Other q = tt
+
+-- the classes that were read are class files
+pub all_formed : (files : Files) (ps : List Parsed) → AllZip IsParsed files ps → AllByRecursion IsFormed ps
+all_formed [] [] z = tt
+all_formed [] (p ∷ ps) z = absurd z
+all_formed (f ∷ files) [] z = absurd z
+all_formed (f ∷ files) (p ∷ ps) z = (formed_one f p z.0, all_formed files ps z.1)
 
 -- ---- classes with a name
 
-later : (f : List ℕ × List ℕ) (files : Files) (name : List ℕ) → HasClassNamed files name → HasClassNamed (f ∷ files) name
+later : (f : File) (files : Files) (name : List ℕ) → HasClassNamed files name → HasClassNamed (f ∷ files) name
 later f files name h =
     record { place = suc h.place; file = h.file; stands = h.stands; kind = h.kind; class = h.class; spelled = h.spelled; named = h.named }
 
-here : (f : List ℕ × List ℕ) (files : Files) (p : Parsed) (name : List ℕ) → IsParsed f p → is_class_named name p ≡ true → HasClassNamed (f ∷ files) name
-here f files (Class c) name q h =
+here : (f : File) (files : Files) (p : Parsed) (name : List ℕ) → IsParsed f p → is_class_named name p ≡ true → HasClassNamed (f ∷ files) name
+here f files (Class c n) name q h =
     let own = some_of (λ found. bytes_eq found name) (this_name c) h in
-    let kind = true_only (SpellsOneClass f.1 c) (is_class_file f.0) q in
+    let kind = class_of f c n q in
     record {
       place = zero;
       file = f;
@@ -106,312 +135,370 @@ named_found (f ∷ files) (p ∷ ps) name z h =
     ⊎_elim (λ e. here f files p name z.0 e) (λ e. later f files name (named_found files ps name z.1 e))
     (or_cases (is_class_named name p) (has_class_named ps name) h)
 
-is_here : (file : List ℕ × List ℕ) (p : Parsed) (name : List ℕ) (c : ClassFile) → IsParsed file p → is_class_file file.0 ≡ true → SpellsClass file.1 c → this_name c ≡ Some name → is_class_named name p ≡ true
-is_here file (Class d) name c q k s n =
-    let one = true_only (SpellsOneClass file.1 d) (is_class_file file.0) q in
-    let same : c ≡ d = one.1.only c s in
-    let own : this_name d ≡ Some name = ap this_name (sym same) ∙ n in
-    ap (is_some_that (λ found. bytes_eq found name)) own ∙ (bytes_eq-Decides name name).1 refl
-is_here file (Aspect a) name c q k s n = absurd (true≢false (sym k ∙ (false_only (SpellsOneAspect file.1 a) (is_class_file file.0) q).0))
-is_here file Other name c q k s n = absurd (of_true (SpellsNoClass file.1) (SpellsNoAspect file.1) (is_class_file file.0) k q c s)
+is_here : (file : File) (p : Parsed) (name : List ℕ) (c : ClassFile) → IsParsed file p → is_class_file file.0 ≡ true → SpellsClass file.1 c → this_name c ≡ Some name → is_class_named name p ≡ true
+is_here file (Class d n) name c q k s own =
+    let same : c ≡ d = (class_of file d n q).1.only c s in
+    let named : this_name d ≡ Some name = ap this_name (sym same) ∙ own in
+    ap (is_some_that (λ found. bytes_eq found name)) named ∙ (bytes_eq-Decides name name).1 refl
+is_here file (Aspect a) name c q k s own = absurd (true≢false (sym k ∙ (aspect_in file a q).0))
+is_here file Other name c q k s own = absurd (true≢false (sym k ∙ (other_in file q).0))
 
-found_named : (files : Files) (ps : List Parsed) (name : List ℕ) (place : ℕ) (file : List ℕ × List ℕ) (c : ClassFile) → AllZip IsParsed files ps → slice_get files place ≡ Some file → is_class_file file.0 ≡ true → SpellsClass file.1 c → this_name c ≡ Some name → has_class_named ps name ≡ true
+found_named : (files : Files) (ps : List Parsed) (name : List ℕ) (place : ℕ) (file : File) (c : ClassFile) → AllZip IsParsed files ps → slice_get files place ≡ Some file → is_class_file file.0 ≡ true → SpellsClass file.1 c → this_name c ≡ Some name → has_class_named ps name ≡ true
 found_named [] ps name place file c z e k s n = absurd cc
 found_named (f ∷ files) [] name place file c z e k s n = absurd z
 found_named (f ∷ files) (p ∷ ps) name zero file c z e k s n =
-    let q = subst (λ (x : List ℕ × List ℕ). IsParsed x p) (some_same f file e) z.0 in
+    let q = subst (λ (x : File). IsParsed x p) (some_same f file e) z.0 in
     or_left (is_class_named name p) (has_class_named ps name) (is_here file p name c q k s n)
 found_named (f ∷ files) (p ∷ ps) name (suc place) file c z e k s n =
     or_right (is_class_named name p) (has_class_named ps name) (found_named files ps name place file c z.1 e k s n)
 
--- ---- earlier files of a kind
+unnamed : (files : Files) (ps : List Parsed) (name : List ℕ) → AllZip IsParsed files ps → has_class_named ps name ≡ false → ¬ (HasClassNamed files name)
+unnamed files ps name z e h = true≢false (sym (found_named files ps name h.place h.file h.class z h.stands h.kind h.spelled h.named) ∙ e)
 
-record Earlier (kind : List ℕ → Bool) (files : Files) (place : ℕ) (b : Bool) : Type 0 where
-  seen : b ≡ true → HasEarlier kind files place
-  none : b ≡ false → ¬ (HasEarlier kind files place)
+-- ---- files of aspects
 
-earlier_more : (kind : List ℕ → Bool) (files : Files) (place : ℕ) (b : Bool) (f : List ℕ × List ℕ) → Earlier kind files place b → slice_get files place ≡ Some f → kind f.0 ≡ false → Earlier kind files (place + 1) b
-earlier_more kind files place b f h s k =
-    record {
-      seen = λ e. let x = h.seen e in (x.0, x.1, omega (arith, x.2), x.3, x.4);
-      none = λ e x. ⊎_elim (λ lt. h.none e (x.0, x.1, lt, x.3, x.4))
-          (λ same. let g : slice_get files place ≡ Some x.1 = ap (slice_get files) (sym same) ∙ x.3 in
-          let eq : f ≡ x.1 = some_same f x.1 (sym s ∙ g) in
-          true≢false (sym x.4 ∙ ap (λ (y : List ℕ × List ℕ). kind y.0) (sym eq) ∙ k))
-          (less_more place x.0 x.2);
-    }
+kind_here : (f : File) (p : Parsed) → IsParsed f p → is_other_file f.0 ≡ is_aspect p
+kind_here f (Class c n) q = ap not (class_of f c n q).0
+kind_here f (Aspect a) q = ap not (aspect_in f a q).0
+kind_here f Other q = ap not (other_in f q).0
 
-earlier_here : (kind : List ℕ → Bool) (files : Files) (place : ℕ) (f : List ℕ × List ℕ) → slice_get files place ≡ Some f → kind f.0 ≡ true → Earlier kind files (place + 1) true
-earlier_here kind files place f s k =
-    record { seen = λ e. (place, f, omega arith, s, k); none = λ e. absurd (true≢false e) }
+kinds : (files : Files) (ps : List Parsed) → AllZip IsParsed files ps → has_aspects files ≡ has_aspect ps
+kinds [] [] z = refl
+kinds [] (p ∷ ps) z = absurd z
+kinds (f ∷ files) [] z = absurd z
+kinds (f ∷ files) (p ∷ ps) z = ap₂ (λ (x y : Bool). x || y) (kind_here f p z.0) (kinds files ps z.1)
 
 -- ---- whether a file is built
 
-built_class : (files : Files) (place : ℕ) (f : List ℕ × List ℕ) (c : ClassFile) → IsParsed f (Class c) → ¬ (HasEarlier is_class_file files place) → IsBuiltAt files place f
-built_class files place f c q n =
-    let one = true_only (SpellsOneClass f.1 c) (is_class_file f.0) q in
-    match_true (IsBuiltClass files place f.1) (IsBuiltAspect files place f.1) (is_class_file f.0) one.0 (record { class = c; spelled = one.1.spelled; first = n })
-
-second_class : (files : Files) (place : ℕ) (f : List ℕ × List ℕ) (c : ClassFile) → IsParsed f (Class c) → HasEarlier is_class_file files place → ¬ (IsBuiltAt files place f)
-second_class files place f c q h b =
-    let one = true_only (SpellsOneClass f.1 c) (is_class_file f.0) q in
-    (of_true (IsBuiltClass files place f.1) (IsBuiltAspect files place f.1) (is_class_file f.0) one.0 b).first h
-
-no_form : (files : Files) (place : ℕ) (f : List ℕ × List ℕ) → IsParsed f Other → ¬ (IsBuiltAt files place f)
-no_form files place f q b = by (is_class_file f.0) q b
-  where
-    by : (k : Bool) → MatchBool k (SpellsNoClass f.1) (SpellsNoAspect f.1) → MatchBool k (IsBuiltClass files place f.1) (IsBuiltAspect files place f.1) → ⊥
-    by true none built = none built.class built.spelled
-    by false none built = none built.aspect built.spelled
-
 module _ (files : Files) (all : List Parsed) (z : AllZip IsParsed files all) where
-  unnamed : (name : List ℕ) → has_class_named all name ≡ false → ¬ (HasClassNamed files name)
-  unnamed name e h = true≢false (sym (found_named files all name h.place h.file h.class z h.stands h.kind h.spelled h.named) ∙ e)
+  -- the files before a place
+  record Behind (place : ℕ) (before : Files) (parsed : List Parsed) : Type 0 where
+    taken : take place files ≡ before
+    zipped : AllZip IsParsed before parsed
 
-  built_aspect : (place : ℕ) (f : List ℕ × List ℕ) (a : FirstAspect) → IsParsed f (Aspect a) → ¬ (HasEarlier is_other_file files place) → is_hidden all a ≡ false → IsBuiltAt files place f
-  built_aspect place f a q n e =
-      let one = false_only (SpellsOneAspect f.1 a) (is_class_file f.0) q in
-      let both = or_false (has_class_named all a.name) (has_class_named all (codes "System")) e in
-      match_false (IsBuiltClass files place f.1) (IsBuiltAspect files place f.1) (is_class_file f.0) one.0
-      (record { aspect = a; spelled = one.1.spelled; first = n; own_name = unnamed a.name both.0; system = unnamed (codes "System") both.1 })
+  -- whether a test tells that the file is built
+  record Tells (place : ℕ) (f : File) (b : Bool) : Type 0 where
+    built : b ≡ true → IsBuiltAt files place f
+    refused : b ≡ false → ¬ (IsBuiltAt files place f)
 
-  second_aspect : (place : ℕ) (f : List ℕ × List ℕ) (a : FirstAspect) → IsParsed f (Aspect a) → HasEarlier is_other_file files place → ¬ (IsBuiltAt files place f)
-  second_aspect place f a q h b =
-      let one = false_only (SpellsOneAspect f.1 a) (is_class_file f.0) q in
-      (of_false (IsBuiltClass files place f.1) (IsBuiltAspect files place f.1) (is_class_file f.0) one.0 b).first h
+  form_same : (bytes : List ℕ) (c : ClassFile) (n : ℕ) → n ≡ length bytes → has_built_form (has_aspects files) bytes c ≡ has_form (has_aspect all) c n
+  form_same bytes c n e = ap (λ (b : Bool). has_form b c (length bytes)) (kinds files all z) ∙ ap (has_form (has_aspect all) c) (sym e)
 
-  hidden_aspect : (place : ℕ) (f : List ℕ × List ℕ) (a : FirstAspect) → IsParsed f (Aspect a) → is_hidden all a ≡ true → ¬ (IsBuiltAt files place f)
-  hidden_aspect place f a q e b =
-      let one = false_only (SpellsOneAspect f.1 a) (is_class_file f.0) q in
-      let built = of_false (IsBuiltClass files place f.1) (IsBuiltAspect files place f.1) (is_class_file f.0) one.0 b in
-      let same : built.aspect ≡ a = one.1.only built.aspect built.spelled in
-      ⊎_elim
-      (λ h. built.own_name (subst (λ (x : FirstAspect). HasClassNamed files x.name) (sym same) (named_found files all a.name z h)))
-      (λ h. built.system (named_found files all (codes "System") z h))
-      (or_cases (has_class_named all a.name) (has_class_named all (codes "System")) e)
+  is_own : (place : ℕ) (before : Files) (parsed : List Parsed) (c : ClassFile) → Behind place before parsed → ((name : List ℕ) → this_name c ≡ Some name → ¬ (HasClassNamed (take place files) name)) → (o : Option (List ℕ)) → this_name c ≡ o → is_new parsed o ≡ true
+  is_own place before parsed c b h None e = refl
+  is_own place before parsed c b h (Some name) e =
+      ap not (false_from_ne_true (has_class_named parsed name)
+      (λ n. h name e (subst (λ (fs : Files). HasClassNamed fs name) (sym b.taken) (named_found before parsed name b.zipped n))))
+
+  class_tells : (place : ℕ) (before : Files) (parsed : List Parsed) (f : File) (c : ClassFile) (n : ℕ) → Behind place before parsed → IsParsed f (Class c n) → Tells place f (is_built all parsed (Class c n))
+  class_tells place before parsed f c n b q =
+      let one = class_of f c n q in
+      record {
+        built = λ e.
+            let both = and_parts (has_form (has_aspect all) c n) (is_new parsed (this_name c)) e in
+            match_true (IsBuiltClass files place f.1) (IsBuiltAspect files place f.1) (is_class_file f.0) one.0
+            (record {
+              class = c;
+              spelled = one.1.spelled;
+              form = form_same f.1 c n one.1.counted ∙ both.0;
+              own_name = λ name own h.
+                  unnamed before parsed name b.zipped (not_only (has_class_named parsed name) (ap (is_new parsed) (sym own) ∙ both.1))
+                  (subst (λ (fs : Files). HasClassNamed fs name) b.taken h);
+            });
+        refused = λ e built.
+            let d = of_true (IsBuiltClass files place f.1) (IsBuiltAspect files place f.1) (is_class_file f.0) one.0 built in
+            let same : d.class ≡ c = one.1.only d.class d.spelled in
+            let form : has_form (has_aspect all) c n ≡ true = sym (form_same f.1 c n one.1.counted) ∙ ap (has_built_form (has_aspects files) f.1) (sym same) ∙ d.form in
+            let own : (name : List ℕ) → this_name c ≡ Some name → ¬ (HasClassNamed (take place files) name) = λ name i. d.own_name name (ap this_name same ∙ i) in
+            true≢false (sym (and_from (has_form (has_aspect all) c n) (is_new parsed (this_name c)) form (is_own place before parsed c b own (this_name c) refl)) ∙ e);
+      }
+
+  aspect_tells : (place : ℕ) (before : Files) (parsed : List Parsed) (f : File) (a : FirstAspect) → Behind place before parsed → IsParsed f (Aspect a) → Tells place f (is_built all parsed (Aspect a))
+  aspect_tells place before parsed f a b q =
+      let one = aspect_in f a q in
+      let behind : has_aspects (take place files) ≡ has_aspect parsed = ap has_aspects b.taken ∙ kinds before parsed b.zipped in
+      record {
+        built = λ e.
+            let both = or_false (has_aspect parsed) (is_hidden all a) (not_only (has_aspect parsed || is_hidden all a) e) in
+            let names = or_false (has_class_named all a.name) (has_class_named all (codes "System")) both.1 in
+            match_false (IsBuiltClass files place f.1) (IsBuiltAspect files place f.1) (is_class_file f.0) one.0
+            (record { aspect = a; spelled = one.1.spelled; first = behind ∙ both.0; own_name = unnamed files all a.name z names.0; system = unnamed files all (codes "System") z names.1 });
+        refused = λ e built.
+            let d = of_false (IsBuiltClass files place f.1) (IsBuiltAspect files place f.1) (is_class_file f.0) one.0 built in
+            let same : d.aspect ≡ a = one.1.only d.aspect d.spelled in
+            ⊎_elim
+            (λ h. true≢false (sym h ∙ sym behind ∙ d.first))
+            (λ h. ⊎_elim
+            (λ n. d.own_name (subst (λ (x : FirstAspect). HasClassNamed files x.name) (sym same) (named_found files all a.name z n)))
+            (λ n. d.system (named_found files all (codes "System") z n))
+            (or_cases (has_class_named all a.name) (has_class_named all (codes "System")) h))
+            (or_cases (has_aspect parsed) (is_hidden all a) (not_not (has_aspect parsed || is_hidden all a) e));
+      }
+
+  other_tells : (place : ℕ) (f : File) → IsParsed f Other → Tells place f false
+  other_tells place f q =
+      let one = other_in f q in
+      record {
+        built = λ e. absurd (true≢false (sym e));
+        refused = λ e built.
+            let d = of_false (IsBuiltClass files place f.1) (IsBuiltAspect files place f.1) (is_class_file f.0) one.0 built in
+            one.1 d.aspect d.spelled;
+      }
+
+  tells : (place : ℕ) (before : Files) (parsed : List Parsed) (f : File) (p : Parsed) → Behind place before parsed → IsParsed f p → Tells place f (is_built all parsed p)
+  tells place before parsed f (Class c n) b q = class_tells place before parsed f c n b q
+  tells place before parsed f (Aspect a) b q = aspect_tells place before parsed f a b q
+  tells place before parsed f Other b q = other_tells place f q
 
   -- ---- the first file that isn't built
 
-  record Seen (place : ℕ) (class aspect : Bool) : Type 0 where
-    classes : Earlier is_class_file files place class
-    aspects : Earlier is_other_file files place aspect
-    built : (before : ℕ) (other : List ℕ × List ℕ) → before < place → slice_get files before ≡ Some other → IsBuiltAt files before other
+  abbrev BuiltUpTo : ℕ → Type 0
+  BuiltUpTo place = (before : ℕ) (other : File) → before < place → slice_get files before ≡ Some other → IsBuiltAt files before other
 
   abbrev IsAnswer : Option ℕ → Type 0
   IsAnswer None = AllBuilt files
-  IsAnswer (Some place) = (file : List ℕ × List ℕ) × IsFirstNotBuilt files place file
+  IsAnswer (Some place) = (file : File) × IsFirstNotBuilt files place file
 
-  built_more : (place : ℕ) (class aspect : Bool) (f : List ℕ × List ℕ) → Seen place class aspect → slice_get files place ≡ Some f → IsBuiltAt files place f → (before : ℕ) (other : List ℕ × List ℕ) → before < place + 1 → slice_get files before ≡ Some other → IsBuiltAt files before other
-  built_more place class aspect f h s b before other lt e =
-      ⊎_elim (λ l. h.built before other l e)
-      (λ same.
-      let g : slice_get files place ≡ Some other = ap (slice_get files) (sym same) ∙ e in
-      let eq : f ≡ other = some_same f other (sym s ∙ g) in
-      subst (λ (k : ℕ). IsBuiltAt files k other) (sym same) (subst (λ (x : List ℕ × List ℕ). IsBuiltAt files place x) eq b))
-      (less_more place before lt)
+  built_more : (place : ℕ) (f : File) → BuiltUpTo place → slice_get files place ≡ Some f → IsBuiltAt files place f → BuiltUpTo (place + 1)
+  built_more place f h s b before other lt e = elim (cases_lt before place) [
+    | inl l ↦ h before other l e
+    | inr l ↦
+        let same : before ≡ place = omega arith in
+        let g : slice_get files place ≡ Some other = ap (slice_get files) (sym same) ∙ e in
+        let eq : f ≡ other = some_same f other (sym s ∙ g) in
+        subst (λ (k : ℕ). IsBuiltAt files k other) (sym same) (subst (λ (x : File). IsBuiltAt files place x) eq b)
+  ]
 
-  refuses : (place : ℕ) (class aspect : Bool) (f : List ℕ × List ℕ) → Seen place class aspect → slice_get files place ≡ Some f → ¬ (IsBuiltAt files place f) → IsAnswer (Some place)
-  refuses place class aspect f h s n = (f, record { stands = s; refused = n; earlier = h.built })
-
-  first_of : (place : ℕ) (f : List ℕ × List ℕ) (fs : Files) → ((k : ℕ) → slice_get files (place + k) ≡ slice_get (f ∷ fs) k) → slice_get files place ≡ Some f
-  first_of place f fs r = let eq : place ≡ place + 0 = omega arith in ap (slice_get files) eq ∙ r zero
-
-  rest_of : (place : ℕ) (f : List ℕ × List ℕ) (fs : Files) → ((k : ℕ) → slice_get files (place + k) ≡ slice_get (f ∷ fs) k) → (k : ℕ) → slice_get files (place + 1 + k) ≡ slice_get fs k
-  rest_of place f fs r k = let eq : place + 1 + k ≡ place + suc k = omega arith in ap (slice_get files) eq ∙ r (suc k)
-
-  at_end : (place : ℕ) (class aspect : Bool) → ((k : ℕ) → slice_get files (place + k) ≡ None) → Seen place class aspect → AllBuilt files
-  at_end place class aspect r h before other e = by (ltb before place) refl
+  answered : (place : ℕ) (before : Files) (parsed : List Parsed) (fs : Files) (ps : List Parsed) → files ≡ before ++ fs → place ≡ length before → AllZip IsParsed before parsed → AllZip IsParsed fs ps → BuiltUpTo place → IsAnswer (first_refused all parsed place ps)
+  answered place before parsed [] [] whole count y x h = λ k other e.
+      let within : k < length files = slice_get_within files k other e in
+      let long : length files ≡ length (before ++ []) = ap length whole in
+      h k other (omega (arith, length-append before [])) e
+  answered place before parsed [] (p ∷ ps) whole count y x h = absurd x
+  answered place before parsed (f ∷ fs) [] whole count y x h = absurd x
+  answered place before parsed (f ∷ fs) (p ∷ ps) whole count y x h =
+      by (is_built all parsed p) refl (tells place before parsed f p (record { taken = taken; zipped = y }) x.0)
+      (λ b. answered (place + 1) (before ++ f ∷ []) (parsed ++ p ∷ []) fs ps
+      (whole ∙ sym (append_assoc before (f ∷ []) fs)) (omega (arith, length-append before (f ∷ []), count)) (zip_more IsParsed before parsed f p y x.0) x.1
+      (built_more place f h stands b))
     where
-      by : (b : Bool) → ltb before place ≡ b → IsBuiltAt files before other
-      by true l = h.built before other (ltb-true before place l) e
-      by false l =
-          let ge : place ≤ before = ltb-false before place l in
-          let eq : place + (before - place) ≡ before = omega arith in
-          let none : slice_get files before ≡ None = ap (slice_get files) (sym eq) ∙ r (before - place) in
-          let no : None ≡ Some other = sym none ∙ e in
-          absurd cc
+      taken : take place files ≡ before
+      taken = ap (take place) whole ∙ ap (λ (k : ℕ). take k (before ++ f ∷ fs)) count ∙ take-append_seam before (f ∷ fs)
 
-  answered : (place : ℕ) (class aspect : Bool) (fs : Files) (ps : List Parsed) → AllZip IsParsed fs ps → ((k : ℕ) → slice_get files (place + k) ≡ slice_get fs k) → Seen place class aspect → IsAnswer (first_refused all place class aspect ps)
-  answered place class aspect [] [] y r h = at_end place class aspect r h
-  answered place class aspect [] (p ∷ ps) y r h = absurd y
-  answered place class aspect (f ∷ fs) [] y r h = absurd y
-  answered place class aspect (f ∷ fs) (Other ∷ ps) y r h = refuses place class aspect f h (first_of place f fs r) (no_form files place f y.0)
-  answered place true aspect (f ∷ fs) (Class c ∷ ps) y r h =
-      refuses place true aspect f h (first_of place f fs r) (second_class files place f c y.0 (h.classes.seen refl))
-  answered place false aspect (f ∷ fs) (Class c ∷ ps) y r h =
-      let s = first_of place f fs r in
-      let kind = (true_only (SpellsOneClass f.1 c) (is_class_file f.0) y.0).0 in
-      answered (place + 1) true aspect fs ps y.1 (rest_of place f fs r)
-      (record {
-        classes = earlier_here is_class_file files place f s kind;
-        aspects = earlier_more is_other_file files place aspect f h.aspects s (not_true (is_class_file f.0) kind);
-        built = built_more place false aspect f h s (built_class files place f c y.0 (h.classes.none refl));
-      })
-  answered place class aspect (f ∷ fs) (Aspect a ∷ ps) y r h =
-      by aspect (is_hidden all a) h refl (answered (place + 1) class true fs ps y.1 (rest_of place f fs r))
-    where
-      s : slice_get files place ≡ Some f
-      s = first_of place f fs r
+      stands : slice_get files place ≡ Some f
+      stands = ap (λ (xs : Files). slice_get xs place) whole ∙ ap (slice_get (before ++ f ∷ fs)) count ∙ slice_get_behind before fs f
 
-      kind : is_class_file f.0 ≡ false
-      kind = (false_only (SpellsOneAspect f.1 a) (is_class_file f.0) y.0).0
+      by : (b : Bool) → is_built all parsed p ≡ b → Tells place f (is_built all parsed p) → (IsBuiltAt files place f → IsAnswer (first_refused all (parsed ++ p ∷ []) (place + 1) ps)) → IsAnswer (cond b (first_refused all (parsed ++ p ∷ []) (place + 1) ps) (Some place))
+      by true e t later = later (t.built e)
+      by false e t later = (f, record { stands = stands; refused = t.refused e; earlier = h })
 
-      by : (seen hidden : Bool) → Seen place class seen → is_hidden all a ≡ hidden → (Seen (place + 1) class true → IsAnswer (first_refused all (place + 1) class true ps)) → IsAnswer (cond (seen || hidden) (Some place) (first_refused all (place + 1) class true ps))
-      by true hidden g e later = refuses place class true f g s (second_aspect place f a y.0 (g.aspects.seen refl))
-      by false true g e later = refuses place class false f g s (hidden_aspect place f a y.0 e)
-      by false false g e later =
-          later (record {
-            classes = earlier_more is_class_file files place class f g.classes s kind;
-            aspects = earlier_here is_other_file files place f s (not_false (is_class_file f.0) kind);
-            built = built_more place class false f g s (built_aspect place f a y.0 (g.aspects.none refl) e);
-          })
+  pub answer : IsAnswer (first_refused all [] 0 all)
+  answer = answered 0 [] [] files all refl refl tt z (λ before other lt e. absurd (omega arith))
 
-  no_earlier : (kind : List ℕ → Bool) → Earlier kind files 0 false
-  no_earlier kind = record { seen = λ e. absurd (true≢false (sym e)); none = λ e x. let h : x.0 < 0 = x.2 in absurd (omega arith) }
-
-  pub answer : IsAnswer (first_refused all 0 false false all)
-  answer =
-      answered 0 false false files all z (λ k. let eq : 0 + k ≡ k = omega arith in ap (slice_get files) eq)
-      (record { classes = no_earlier is_class_file; aspects = no_earlier is_other_file; built = λ before other lt e. absurd (omega arith) })
-
-  pub all_built : first_refused all 0 false false all ≡ None → AllBuilt files
+  pub all_built : first_refused all [] 0 all ≡ None → AllBuilt files
   all_built e = subst IsAnswer e answer
 
-  pub not_built : (place : ℕ) → first_refused all 0 false false all ≡ Some place → (file : List ℕ × List ℕ) × IsFirstNotBuilt files place file
+  pub not_built : (place : ℕ) → first_refused all [] 0 all ≡ Some place → (file : File) × IsFirstNotBuilt files place file
   not_built place e = subst IsAnswer e answer
 
 -- ---- what the files say
 
 module _ (all : List Parsed) where
-  reads : (place : ℕ) (class aspect : Bool) (fs : Files) (ps : List Parsed) → AllZip IsParsed fs ps → first_refused all place class aspect ps ≡ None → Reads fs (classes_in ps) (aspects_in ps)
-  reads place class aspect [] [] z e = (refl, refl)
-  reads place class aspect [] (p ∷ ps) z e = absurd z
-  reads place class aspect (f ∷ fs) [] z e = absurd z
-  reads place class aspect (f ∷ fs) (Other ∷ ps) z e = absurd cc
-  reads place class aspect (f ∷ fs) (Class c ∷ ps) z e =
-      let one = true_only (SpellsOneClass f.1 c) (is_class_file f.0) z.0 in
-      let next = reads (place + 1) true aspect fs ps z.1 (cond_none class place (first_refused all (place + 1) true aspect ps) e).1 in
-      match_true _ _ (is_class_file f.0) one.0 (c, classes_in ps, refl, one.1.spelled, next)
-  reads place class aspect (f ∷ fs) (Aspect a ∷ ps) z e =
-      let one = false_only (SpellsOneAspect f.1 a) (is_class_file f.0) z.0 in
-      let next = reads (place + 1) class true fs ps z.1 (cond_none (aspect || is_hidden all a) place (first_refused all (place + 1) class true ps) e).1 in
-      match_false _ _ (is_class_file f.0) one.0 (a, aspects_in ps, refl, one.1.spelled, next)
+  -- each of these files is built
+  abbrev Passes : List Parsed → ℕ → List Parsed → Type 0
+  Passes before place ps = first_refused all before place ps ≡ None
 
-  no_classes : (place : ℕ) (aspect : Bool) (ps : List Parsed) → first_refused all place true aspect ps ≡ None → classes_in ps ≡ []
-  no_classes place aspect [] e = refl
-  no_classes place aspect (Class c ∷ ps) e = absurd cc
-  no_classes place aspect (Aspect a ∷ ps) e = no_classes (place + 1) true ps (cond_none (aspect || is_hidden all a) place (first_refused all (place + 1) true true ps) e).1
-  no_classes place aspect (Other ∷ ps) e = absurd cc
+  passes_on : (before : List Parsed) (place : ℕ) (p : Parsed) (ps : List Parsed) → Passes before place (p ∷ ps) → (is_built all before p ≡ true) × Passes (before ++ p ∷ []) (place + 1) ps
+  passes_on before place p ps e = cond_none (is_built all before p) place (first_refused all (before ++ p ∷ []) (place + 1) ps) e
 
-  one_class : (place : ℕ) (aspect : Bool) (ps : List Parsed) → first_refused all place false aspect ps ≡ None → classes_in ps ≡ option_to_list (last_of None (classes_in ps))
-  one_class place aspect [] e = refl
-  one_class place aspect (Class c ∷ ps) e =
-      subst (λ (cs : List ClassFile). c ∷ cs ≡ option_to_list (last_of (Some c) cs)) (sym (no_classes (place + 1) aspect ps e)) refl
-  one_class place aspect (Aspect a ∷ ps) e = one_class (place + 1) true ps (cond_none (aspect || is_hidden all a) place (first_refused all (place + 1) false true ps) e).1
-  one_class place aspect (Other ∷ ps) e = absurd cc
+  reads : (before : List Parsed) (place : ℕ) (fs : Files) (ps : List Parsed) → AllZip IsParsed fs ps → Passes before place ps → Reads fs (classes_in ps) (aspects_in ps)
+  reads before place [] [] z e = (refl, refl)
+  reads before place [] (p ∷ ps) z e = absurd z
+  reads before place (f ∷ fs) [] z e = absurd z
+  reads before place (f ∷ fs) (Other ∷ ps) z e = absurd cc
+  reads before place (f ∷ fs) (Class c n ∷ ps) z e =
+      let one = class_of f c n z.0 in
+      match_true _ _ (is_class_file f.0) one.0 (c, classes_in ps, refl, one.1.spelled, reads (before ++ Class c n ∷ []) (place + 1) fs ps z.1 (passes_on before place (Class c n) ps e).1)
+  reads before place (f ∷ fs) (Aspect a ∷ ps) z e =
+      let one = aspect_in f a z.0 in
+      match_false _ _ (is_class_file f.0) one.0 (a, aspects_in ps, refl, one.1.spelled, reads (before ++ Aspect a ∷ []) (place + 1) fs ps z.1 (passes_on before place (Aspect a) ps e).1)
 
-  no_aspects : (place : ℕ) (class : Bool) (ps : List Parsed) → first_refused all place class true ps ≡ None → aspects_in ps ≡ []
-  no_aspects place class [] e = refl
-  no_aspects place class (Class c ∷ ps) e = no_aspects (place + 1) true ps (cond_none class place (first_refused all (place + 1) true true ps) e).1
-  no_aspects place class (Aspect a ∷ ps) e = absurd cc
-  no_aspects place class (Other ∷ ps) e = absurd cc
+  -- ---- at most one aspect
 
-  one_aspect : (place : ℕ) (class : Bool) (ps : List Parsed) → first_refused all place class false ps ≡ None → aspects_in ps ≡ option_to_list (last_of None (aspects_in ps))
-  one_aspect place class [] e = refl
-  one_aspect place class (Class c ∷ ps) e = one_aspect (place + 1) true ps (cond_none class place (first_refused all (place + 1) true false ps) e).1
-  one_aspect place class (Aspect a ∷ ps) e =
-      let next = (cond_none (is_hidden all a) place (first_refused all (place + 1) class true ps) e).1 in
-      subst (λ (xs : List FirstAspect). a ∷ xs ≡ option_to_list (last_of (Some a) xs)) (sym (no_aspects (place + 1) class ps next)) refl
-  one_aspect place class (Other ∷ ps) e = absurd cc
+  unbehind : (before : List Parsed) (place : ℕ) (a : FirstAspect) (ps : List Parsed) → Passes before place (Aspect a ∷ ps) → (has_aspect before ≡ false) × (is_hidden all a ≡ false)
+  unbehind before place a ps e = or_false (has_aspect before) (is_hidden all a) (not_only (has_aspect before || is_hidden all a) (passes_on before place (Aspect a) ps e).0)
 
-  unhidden : (place : ℕ) (class aspect : Bool) (ps : List Parsed) → first_refused all place class aspect ps ≡ None → AllByRecursion (λ (a : FirstAspect). is_hidden all a ≡ false) (aspects_in ps)
-  unhidden place class aspect [] e = tt
-  unhidden place class aspect (Class c ∷ ps) e = unhidden (place + 1) true aspect ps (cond_none class place (first_refused all (place + 1) true aspect ps) e).1
-  unhidden place class aspect (Aspect a ∷ ps) e =
-      let both = cond_none (aspect || is_hidden all a) place (first_refused all (place + 1) class true ps) e in
-      ((or_false aspect (is_hidden all a) both.0).1, unhidden (place + 1) class true ps both.1)
-  unhidden place class aspect (Other ∷ ps) e = absurd cc
+  behind_more : (before : List Parsed) (p : Parsed) → has_aspect before ≡ true → has_aspect (before ++ p ∷ []) ≡ true
+  behind_more before p e = list_any-append is_aspect before (p ∷ []) ∙ ap (λ (x : Bool). x || (is_aspect p || false)) e
 
--- ---- the form and the names
+  behind_this : (before : List Parsed) (a : FirstAspect) → has_aspect (before ++ Aspect a ∷ []) ≡ true
+  behind_this before a = list_any-append is_aspect before (Aspect a ∷ []) ∙ or_true (has_aspect before)
+    where
+      or_true : (x : Bool) → (x || true) ≡ true
+      or_true true = refl
+      or_true false = refl
 
-class_forms : (fs : Files) (ps : List Parsed) → AllZip IsParsed fs ps → AllByRecursion (λ (c : ClassFile). IsTrue (is_first_form c)) (classes_in ps)
-class_forms [] [] z = tt
-class_forms [] (p ∷ ps) z = absurd z
-class_forms (f ∷ fs) [] z = absurd z
-class_forms (f ∷ fs) (Class c ∷ ps) z =
-    let one = true_only (SpellsOneClass f.1 c) (is_class_file f.0) z.0 in
-    ((and_parts (is_first_form c) _ one.1.spelled.formed).0, class_forms fs ps z.1)
-class_forms (f ∷ fs) (Aspect a ∷ ps) z = class_forms fs ps z.1
-class_forms (f ∷ fs) (Other ∷ ps) z = class_forms fs ps z.1
+  no_aspects : (before : List Parsed) (place : ℕ) (ps : List Parsed) → has_aspect before ≡ true → Passes before place ps → aspects_in ps ≡ []
+  no_aspects before place [] b e = refl
+  no_aspects before place (Class c n ∷ ps) b e = no_aspects (before ++ Class c n ∷ []) (place + 1) ps (behind_more before (Class c n) b) (passes_on before place (Class c n) ps e).1
+  no_aspects before place (Aspect a ∷ ps) b e = absurd (true≢false (sym b ∙ (unbehind before place a ps e).0))
+  no_aspects before place (Other ∷ ps) b e = absurd cc
+
+  one_aspect : (before : List Parsed) (place : ℕ) (ps : List Parsed) → Passes before place ps → aspects_in ps ≡ option_to_list (last_of None (aspects_in ps))
+  one_aspect before place [] e = refl
+  one_aspect before place (Class c n ∷ ps) e = one_aspect (before ++ Class c n ∷ []) (place + 1) ps (passes_on before place (Class c n) ps e).1
+  one_aspect before place (Aspect a ∷ ps) e =
+      subst (λ (xs : List FirstAspect). a ∷ xs ≡ option_to_list (last_of (Some a) xs))
+      (sym (no_aspects (before ++ Aspect a ∷ []) (place + 1) ps (behind_this before a) (passes_on before place (Aspect a) ps e).1)) refl
+  one_aspect before place (Other ∷ ps) e = absurd cc
+
+  unhidden : (before : List Parsed) (place : ℕ) (ps : List Parsed) → Passes before place ps → AllByRecursion (λ (a : FirstAspect). is_hidden all a ≡ false) (aspects_in ps)
+  unhidden before place [] e = tt
+  unhidden before place (Class c n ∷ ps) e = unhidden (before ++ Class c n ∷ []) (place + 1) ps (passes_on before place (Class c n) ps e).1
+  unhidden before place (Aspect a ∷ ps) e = ((unbehind before place a ps e).1, unhidden (before ++ Aspect a ∷ []) (place + 1) ps (passes_on before place (Aspect a) ps e).1)
+  unhidden before place (Other ∷ ps) e = absurd cc
+
+  -- there is an aspect's file exactly where there is an aspect
+  beside_none : (before : List Parsed) (place : ℕ) (ps : List Parsed) → Passes before place ps → aspects_in ps ≡ [] → has_aspect ps ≡ false
+  beside_none before place [] e n = refl
+  beside_none before place (Class c k ∷ ps) e n = beside_none (before ++ Class c k ∷ []) (place + 1) ps (passes_on before place (Class c k) ps e).1 n
+  beside_none before place (Aspect a ∷ ps) e n = absurd cc
+  beside_none before place (Other ∷ ps) e n = absurd cc
+
+  beside_some : (ps : List Parsed) (a : FirstAspect) (rest : List FirstAspect) → aspects_in ps ≡ a ∷ rest → has_aspect ps ≡ true
+  beside_some [] a rest n = absurd cc
+  beside_some (Class c k ∷ ps) a rest n = beside_some ps a rest n
+  beside_some (Aspect b ∷ ps) a rest n = refl
+  beside_some (Other ∷ ps) a rest n = refl
+
+  -- ---- the forms of the classes
+
+  class_forms : (before : List Parsed) (place : ℕ) (fs : Files) (ps : List Parsed) → AllZip IsParsed fs ps → has_aspect all ≡ true → Passes before place ps → AllByRecursion (λ (c : ClassFile). IsTrue (is_first_form c)) (classes_in ps)
+  class_forms before place [] [] z b e = tt
+  class_forms before place [] (p ∷ ps) z b e = absurd z
+  class_forms before place (f ∷ fs) [] z b e = absurd z
+  class_forms before place (f ∷ fs) (Class c n ∷ ps) z b e =
+      let h = passes_on before place (Class c n) ps e in
+      let form = (and_parts (has_form (has_aspect all) c n) (is_new before (this_name c)) h.0).0 in
+      let first : has_form true c n ≡ true = ap (λ (x : Bool). has_form x c n) (sym b) ∙ form in
+      ((and_parts (is_first_form c) (nat_le n 65536) first).0, class_forms (before ++ Class c n ∷ []) (place + 1) fs ps z.1 b h.1)
+  class_forms before place (f ∷ fs) (Aspect a ∷ ps) z b e = class_forms (before ++ Aspect a ∷ []) (place + 1) fs ps z.1 b (passes_on before place (Aspect a) ps e).1
+  class_forms before place (f ∷ fs) (Other ∷ ps) z b e = absurd cc
+
+  plain_forms : (before : List Parsed) (place : ℕ) (fs : Files) (ps : List Parsed) → AllZip IsParsed fs ps → has_aspect all ≡ false → Passes before place ps → AllByRecursion (λ (c : ClassFile). IsTrue (is_well_formed c && is_plain_class c)) (classes_in ps)
+  plain_forms before place [] [] z b e = tt
+  plain_forms before place [] (p ∷ ps) z b e = absurd z
+  plain_forms before place (f ∷ fs) [] z b e = absurd z
+  plain_forms before place (f ∷ fs) (Class c n ∷ ps) z b e =
+      let h = passes_on before place (Class c n) ps e in
+      let form = (and_parts (has_form (has_aspect all) c n) (is_new before (this_name c)) h.0).0 in
+      let plain : is_plain_class c ≡ true = ap (λ (x : Bool). has_form x c n) (sym b) ∙ form in
+      (and_from (is_well_formed c) (is_plain_class c) (class_of f c n z.0).1.spelled.formed plain, plain_forms (before ++ Class c n ∷ []) (place + 1) fs ps z.1 b h.1)
+  plain_forms before place (f ∷ fs) (Aspect a ∷ ps) z b e = plain_forms (before ++ Aspect a ∷ []) (place + 1) fs ps z.1 b (passes_on before place (Aspect a) ps e).1
+  plain_forms before place (f ∷ fs) (Other ∷ ps) z b e = absurd cc
+
+  -- ---- the names of the classes
+
+  named_more : (before : List Parsed) (p : Parsed) (name : List ℕ) → has_class_named before name ≡ true → has_class_named (before ++ p ∷ []) name ≡ true
+  named_more before p name h = list_any-append (is_class_named name) before (p ∷ []) ∙ ap (λ (x : Bool). x || (is_class_named name p || false)) h
+
+  named_here : (before : List Parsed) (c : ClassFile) (n : ℕ) (name : List ℕ) → this_name c ≡ Some name → has_class_named (before ++ Class c n ∷ []) name ≡ true
+  named_here before c n name own =
+      list_any-append (is_class_named name) before (Class c n ∷ [])
+      ∙ or_right (has_class_named before name) (is_class_named name (Class c n) || false)
+      (or_left (is_class_named name (Class c n)) false (ap (is_some_that (λ found. bytes_eq found name)) own ∙ (bytes_eq-Decides name name).1 refl))
+
+  differs : (before : List Parsed) (d : ClassFile) (name : List ℕ) → has_class_named before name ≡ true → is_new before (this_name d) ≡ true → this_name d ≢ Some name
+  differs before d name h n own = true≢false (sym h ∙ not_only (has_class_named before name) (ap (is_new before) (sym own) ∙ n))
+
+  apart_from : (before : List Parsed) (place : ℕ) (ps : List Parsed) (name : List ℕ) → has_class_named before name ≡ true → Passes before place ps → AllByRecursion (λ y. Some name ≢ y) (map this_name (classes_in ps))
+  apart_from before place [] name h e = tt
+  apart_from before place (Class d n ∷ ps) name h e =
+      let p = passes_on before place (Class d n) ps e in
+      let new = (and_parts (has_form (has_aspect all) d n) (is_new before (this_name d)) p.0).1 in
+      ((λ s. differs before d name h new (sym s)), apart_from (before ++ Class d n ∷ []) (place + 1) ps name (named_more before (Class d n) name h) p.1)
+  apart_from before place (Aspect a ∷ ps) name h e = apart_from (before ++ Aspect a ∷ []) (place + 1) ps name (named_more before (Aspect a) name h) (passes_on before place (Aspect a) ps e).1
+  apart_from before place (Other ∷ ps) name h e = absurd cc
+
+  apart : (before : List Parsed) (place : ℕ) (ps : List Parsed) → AllByRecursion IsFormed ps → Passes before place ps → AreApart (map this_name (classes_in ps))
+  apart before place [] f e = tt
+  apart before place (Class c n ∷ ps) f e =
+      let p = passes_on before place (Class c n) ps e in
+      let own = some_of is_class_name (this_name c) (is_named_of c f.0) in
+      (
+        subst (λ (o : Option (List ℕ)). AllByRecursion (λ y. o ≢ y) (map this_name (classes_in ps))) (sym own.1)
+        (apart_from (before ++ Class c n ∷ []) (place + 1) ps own.0 (named_here before c n own.0 own.1) p.1),
+        apart (before ++ Class c n ∷ []) (place + 1) ps f.1 p.1,
+      )
+  apart before place (Aspect a ∷ ps) f e = apart (before ++ Aspect a ∷ []) (place + 1) ps f.1 (passes_on before place (Aspect a) ps e).1
+  apart before place (Other ∷ ps) f e = absurd cc
 
 aspect_forms : (fs : Files) (ps : List Parsed) → AllZip IsParsed fs ps → AllByRecursion (λ (a : FirstAspect). IsTrue (is_first_aspect a)) (aspects_in ps)
 aspect_forms [] [] z = tt
 aspect_forms [] (p ∷ ps) z = absurd z
 aspect_forms (f ∷ fs) [] z = absurd z
-aspect_forms (f ∷ fs) (Class c ∷ ps) z = aspect_forms fs ps z.1
-aspect_forms (f ∷ fs) (Aspect a ∷ ps) z =
-    ((false_only (SpellsOneAspect f.1 a) (is_class_file f.0) z.0).1.spelled.formed, aspect_forms fs ps z.1)
+aspect_forms (f ∷ fs) (Class c n ∷ ps) z = aspect_forms fs ps z.1
+aspect_forms (f ∷ fs) (Aspect a ∷ ps) z = ((aspect_in f a z.0).1.spelled.formed, aspect_forms fs ps z.1)
 aspect_forms (f ∷ fs) (Other ∷ ps) z = aspect_forms fs ps z.1
 
-other_name : (name : List ℕ) (c : ClassFile) → is_class_named name (Class c) ≡ false → this_name c ≢ Some name
-other_name name c e n =
-    true≢false (sym (ap (is_some_that (λ found. bytes_eq found name)) n ∙ (bytes_eq-Decides name name).1 refl) ∙ e)
+other_name : (name : List ℕ) (c : ClassFile) (n : ℕ) → is_class_named name (Class c n) ≡ false → this_name c ≢ Some name
+other_name name c n e own =
+    true≢false (sym (ap (is_some_that (λ found. bytes_eq found name)) own ∙ (bytes_eq-Decides name name).1 refl) ∙ e)
 
-other_names : (name : List ℕ) (ps : List Parsed) → has_class_named ps name ≡ false → AllByRecursion (λ (c : ClassFile). this_name c ≢ Some name) (classes_in ps)
+other_names : (name : List ℕ) (ps : List Parsed) → has_class_named ps name ≡ false → AllByRecursion (λ y. y ≢ Some name) (map this_name (classes_in ps))
 other_names name [] e = tt
-other_names name (Class c ∷ ps) e =
-    let both = or_false (is_class_named name (Class c)) (has_class_named ps name) e in
-    (other_name name c both.0, other_names name ps both.1)
+other_names name (Class c n ∷ ps) e =
+    let both = or_false (is_class_named name (Class c n)) (has_class_named ps name) e in
+    (other_name name c n both.0, other_names name ps both.1)
 other_names name (Aspect a ∷ ps) e = other_names name ps e
 other_names name (Other ∷ ps) e = other_names name ps e
 
-abbrev AreOther : List ClassFile → FirstAspect → Type 0
-AreOther cs a = AllByRecursion (λ (c : ClassFile). this_name c ≢ Some a.name) cs
+-- ---- what is woven
 
-all_other : (all : List Parsed) (aspects : List FirstAspect) → AllByRecursion (λ (a : FirstAspect). is_hidden all a ≡ false) aspects → AllByRecursion (AreOther (classes_in all)) aspects
-all_other all [] h = tt
-all_other all (a ∷ aspects) h =
-    (other_names a.name all (or_false (has_class_named all a.name) (has_class_named all (codes "System")) h.0).0, all_other all aspects h.1)
+each_more : {X : Type 0} (P : X → Type 0) (xs : List X) (y : X) → AllByRecursion P xs → P y → AllByRecursion P (xs ++ y ∷ [])
+each_more P [] y h p = (p, tt)
+each_more P (x ∷ xs) y h p = (h.0, each_more P xs y h.1 p)
 
-fits : (class : Option ClassFile) (aspect : Option FirstAspect) → AllByRecursion (λ (c : ClassFile). IsTrue (is_first_form c)) (option_to_list class) → AllByRecursion (λ (a : FirstAspect). IsTrue (is_first_aspect a)) (option_to_list aspect) → AllByRecursion (AreOther (option_to_list class)) (option_to_list aspect) → Fit class aspect
-fits None None f g n = tt
-fits (Some c) None f g n = f.0
-fits None (Some a) f g n = g.0
-fits (Some c) (Some a) f g n = record { class = f.0; aspect = g.0; names = n.0.0 }
+apart_more : {X : Type 0} (xs : List X) (y : X) → AreApart xs → AllByRecursion (λ x. x ≢ y) xs → AreApart (xs ++ y ∷ [])
+apart_more [] y h n = (tt, tt)
+apart_more (x ∷ xs) y h n = (each_more (λ z. x ≢ z) xs y h.0 n.0, apart_more xs y h.1 n.1)
 
--- the class and the aspect of files that are all built
-pub fit : (files : Files) (all : List Parsed) → AllZip IsParsed files all → first_refused all 0 false false all ≡ None → Fit (last_of None (classes_in all)) (last_of None (aspects_in all))
-fit files all z e =
-    let cs = one_class all 0 false all e in
-    let aspects = one_aspect all 0 false all e in
-    let class = last_of None (classes_in all) in
-    let aspect = last_of None (aspects_in all) in
-    let names = all_other all (aspects_in all) (unhidden all 0 false false all e) in
-    fits class aspect
-    (subst (AllByRecursion (λ (c : ClassFile). IsTrue (is_first_form c))) cs (class_forms files all z))
-    (subst (AllByRecursion (λ (a : FirstAspect). IsTrue (is_first_aspect a))) aspects (aspect_forms files all z))
-    (subst (λ (xs : List ClassFile). AllByRecursion (AreOther xs) (option_to_list aspect)) cs (subst (AllByRecursion (AreOther (classes_in all))) aspects names))
+-- files that were read, and are all built
+record AreBuilt (files : Files) (all : List Parsed) : Type 0 where
+  parsed : AllZip IsParsed files all
+  passes : first_refused all [] 0 all ≡ None
 
--- the outputs are planned where they are the files of a weaving of the class and the aspect
-pub planned : (files : Files) (all : List Parsed) (folder : List ℕ) (outputs : Files) → AllZip IsParsed files all → first_refused all 0 false false all ≡ None → IsWoven (last_of None (classes_in all)) (last_of None (aspects_in all)) folder outputs → IsPlan files folder outputs
-planned files all folder outputs z e w =
+fits : (files : Files) (all : List Parsed) (aspect : Option FirstAspect) → AreBuilt files all → aspects_in all ≡ option_to_list aspect → Fit (classes_in all) aspect
+fits files all None h e = plain_forms all [] 0 files all h.parsed (beside_none all [] 0 all h.passes e) h.passes
+fits files all (Some a) h e =
+    let forms = subst (AllByRecursion (λ (x : FirstAspect). IsTrue (is_first_aspect x))) e (aspect_forms files all h.parsed) in
+    let hidden = subst (AllByRecursion (λ (x : FirstAspect). is_hidden all x ≡ false)) e (unhidden all [] 0 all h.passes) in
+    let own = (or_false (has_class_named all a.name) (has_class_named all (codes "System")) hidden.0).0 in
+    record {
+      forms = class_forms all [] 0 files all h.parsed (beside_some all all a [] e) h.passes;
+      aspect = forms.0;
+      names = apart_more (map this_name (classes_in all)) (Some a.name) (apart all [] 0 all (all_formed files all h.parsed) h.passes) (other_names a.name all own);
+    }
+
+-- the classes and the aspect of files that are all built
+pub fit_of : (files : Files) (all : List Parsed) (classes : List ClassFile) (aspect : Option FirstAspect) → AllZip IsParsed files all → first_refused all [] 0 all ≡ None → classes ≡ classes_in all → aspect ≡ last_of None (aspects_in all) → Fit classes aspect
+fit_of files all classes aspect z e c a =
+    subst (λ (cs : List ClassFile). Fit cs aspect) (sym c)
+    (fits files all aspect (record { parsed = z; passes = e }) (one_aspect all [] 0 all e ∙ ap option_to_list (sym a)))
+
+-- the outputs are planned where they are the files of a weaving of the classes and the aspect
+pub planned_of : (files : Files) (all : List Parsed) (folder : List ℕ) (outputs : Files) (classes : List ClassFile) (aspect : Option FirstAspect) → AllZip IsParsed files all → first_refused all [] 0 all ≡ None → classes ≡ classes_in all → aspect ≡ last_of None (aspects_in all) → IsWoven classes aspect folder outputs → IsPlan files folder outputs
+planned_of files all folder outputs classes aspect z e c a w =
     record {
       classes = classes_in all;
       aspects = aspects_in all;
       written = w.written;
-      reads = reads all 0 false false files all z e;
+      reads = reads all [] 0 files all z e;
       weaving =
-          subst (λ (cs : List ClassFile). IsWeaving cs (map aspect_of (aspects_in all)) w.written) (sym (one_class all 0 false all e))
-          (subst (λ (xs : List FirstAspect). IsWeaving (option_to_list (last_of None (classes_in all))) (map aspect_of xs) w.written) (sym (one_aspect all 0 false all e)) w.weaving);
+          subst (λ (cs : List ClassFile). IsWeaving cs (map aspect_of (aspects_in all)) w.written) c
+          (subst (λ (xs : List FirstAspect). IsWeaving classes (map aspect_of xs) w.written) (sym (one_aspect all [] 0 all e ∙ ap option_to_list (sym a))) w.weaving);
       files = w.files;
     }
 
--- the same of a class and an aspect that are the last ones
-pub fit_of : (files : Files) (all : List Parsed) (class : Option ClassFile) (aspect : Option FirstAspect) → AllZip IsParsed files all → first_refused all 0 false false all ≡ None → class ≡ last_of None (classes_in all) → aspect ≡ last_of None (aspects_in all) → Fit class aspect
-fit_of files all class aspect z e c a =
-    subst (λ (x : Option ClassFile). Fit x aspect) (sym c) (subst (λ (y : Option FirstAspect). Fit (last_of None (classes_in all)) y) (sym a) (fit files all z e))
-
-pub planned_of : (files : Files) (all : List Parsed) (folder : List ℕ) (outputs : Files) (class : Option ClassFile) (aspect : Option FirstAspect) → AllZip IsParsed files all → first_refused all 0 false false all ≡ None → class ≡ last_of None (classes_in all) → aspect ≡ last_of None (aspects_in all) → IsWoven class aspect folder outputs → IsPlan files folder outputs
-planned_of files all folder outputs class aspect z e c a w =
-    planned files all folder outputs z e
-    (subst (λ (y : Option FirstAspect). IsWoven (last_of None (classes_in all)) y folder outputs) a (subst (λ (x : Option ClassFile). IsWoven x aspect folder outputs) c w))
+pub taken_of : (files : Files) (all : List Parsed) → AllZip IsParsed files all → find is_faulty files ≡ None → first_refused all [] 0 all ≡ None → AreTaken files
+taken_of files all z r e = record { read = r; built = all_built files all z e }

@@ -1,42 +1,34 @@
 -- What may be woven, and what is written of it.
-use Rattle.std.specs.Prelude.{◌≡◌, ◌≢◌, ℕ, IsTrue, List, Option, Some, None, map}
+use Rattle.std.specs.Prelude.{◌≡◌, ℕ, ◌&&◌, IsTrue, List, [], ◌∷◌, ◌++◌, Option, Some, None, map}
 use Rattle.std.specs.List.{AllByRecursion}
 use Rattle.std.specs.Option.{option_to_list}
 use Rattle.aj_outside.specs.Files.{Files}
 use Rattle.class_file.specs.declared.types.ClassFile.{ClassFile}
 use Rattle.class_file.specs.Pool.{this_name}
-use Rattle.class_file.specs.Range.{is_writable}
-use Rattle.class_file.specs.Sound.{is_some_that}
-use Rattle.class_file.specs.FirstForm.{is_first_form, is_identifier}
+use Rattle.class_file.specs.WellFormed.{is_well_formed}
+use Rattle.class_file.specs.FirstForm.{is_first_form}
 use Rattle.jp_model.specs.declared.first_aspect.FirstAspect.{FirstAspect}
 use Rattle.jp_model.specs.AspectText.{is_first_aspect, aspect_of}
-use Rattle.jp_model.specs.Headline.{IsWeaving, outputs_of}
+use Rattle.jp_model.specs.Input.{is_plain_class}
+use Rattle.jp_model.specs.Headline.{AreApart, IsWeaving, outputs_of}
 
--- a class and an aspect of the form, with names that differ
-pub record FitEachOther (c : ClassFile) (a : FirstAspect) : Type 0 where
-  pub class : IsTrue (is_first_form c)
+-- the classes and the aspect are of the first form, and no two have one name
+pub record FitAspect (classes : List ClassFile) (a : FirstAspect) : Type 0 where
+  pub forms : AllByRecursion (λ c. IsTrue (is_first_form c)) classes
   pub aspect : IsTrue (is_first_aspect a)
-  pub names : this_name c ≢ Some a.name
+  pub names : AreApart (map this_name classes ++ Some a.name ∷ [])
 
--- they can be woven, where both are there, and are of the form
-abbrev pub Fit : Option ClassFile → Option FirstAspect → Type 0
-Fit None None = Unit {0}
-Fit (Some c) None = IsTrue (is_first_form c)
-Fit None (Some a) = IsTrue (is_first_aspect a)
-Fit (Some c) (Some a) = FitEachOther c a
+-- they can be woven; without an aspect each class is plain
+abbrev pub Fit : List ClassFile → Option FirstAspect → Type 0
+Fit classes None = AllByRecursion (λ c. IsTrue (is_well_formed c && is_plain_class c)) classes
+Fit classes (Some a) = FitAspect classes a
 
--- its numbers fit their fields, and its name is an identifier
-pub record HasFile (c : ClassFile) : Type 0 where
-  pub writable : IsTrue (is_writable c)
-  pub name : IsTrue (is_some_that is_identifier (this_name c))
-
--- these classes are a weaving, and each has a file
-pub record AreWritten (class : Option ClassFile) (aspect : Option FirstAspect) (written : List ClassFile) : Type 0 where
-  pub weaving : IsWeaving (option_to_list class) (map aspect_of (option_to_list aspect)) written
-  pub files : AllByRecursion HasFile written
+-- the classes are a weaving of these
+abbrev pub IsWovenOf : List ClassFile → Option FirstAspect → List ClassFile → Type 0
+IsWovenOf classes aspect written = IsWeaving classes (map aspect_of (option_to_list aspect)) written
 
 -- the outputs are the files of a weaving of these
-pub record IsWoven (class : Option ClassFile) (aspect : Option FirstAspect) (folder : List ℕ) (outputs : Files) : Type 0 where
+pub record IsWoven (classes : List ClassFile) (aspect : Option FirstAspect) (folder : List ℕ) (outputs : Files) : Type 0 where
   pub written : List ClassFile
-  pub weaving : IsWeaving (option_to_list class) (map aspect_of (option_to_list aspect)) written
+  pub weaving : IsWovenOf classes aspect written
   pub files : outputs ≡ outputs_of folder written

@@ -1,4 +1,6 @@
 pub mod Plan
+pub mod Faults
 pub mod Parsed
 pub mod Fit
-pub mod Places
+pub mod Names
+pub mod Utf8

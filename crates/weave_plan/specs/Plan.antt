@@ -1,5 +1,5 @@
 -- What is planned from the files that were read.
-use Rattle.std.specs.Prelude.{◌≡◌, ℕ, List, map, Result, Ok, Err}
+use Rattle.std.specs.Prelude.{◌≡◌, ℕ, List, map}
 use Rattle.aj_outside.specs.Files.{Files}
 use Rattle.class_file.specs.declared.types.ClassFile.{ClassFile}
 use Rattle.jp_model.specs.declared.first_aspect.FirstAspect.{FirstAspect}
@@ -7,8 +7,6 @@ use Rattle.jp_model.specs.AspectText.{aspect_of}
 use Rattle.jp_model.specs.Input.{Reads}
 use Rattle.jp_model.specs.Headline.{IsWeaving, outputs_of}
 use Rattle.weave_plan.specs.declared.planning.NamedFile.{NamedFile}
-use Rattle.weave_plan.specs.declared.planning.PlanFault.{PlanFault}
-use Rattle.weave_plan.specs.declared.planning.PlanFault.TheVariants.{NotBuilt, Memory}
 
 -- the files, each as its name and its bytes
 abbrev pub files_of : List NamedFile → Files
@@ -23,12 +21,3 @@ pub record IsPlan (inputs : Files) (folder : List ℕ) (outputs : Files) : Type 
   pub reads : Reads inputs classes aspects
   pub weaving : IsWeaving classes (map aspect_of aspects) written
   pub files : outputs ≡ outputs_of folder written
-
-abbrev pub IfFaultIs : PlanFault → (ℕ → Type 0) → Type 0
-IfFaultIs (NotBuilt place) P = P place
-IfFaultIs Memory P = Unit {0}
-
--- P holds of the place of the file that isn't built, where one was refused
-abbrev pub IfNotBuilt : {T : Type 0} → Result T PlanFault → (ℕ → Type 0) → Type 0
-IfNotBuilt (Ok x) P = Unit {0}
-IfNotBuilt (Err fault) P = IfFaultIs fault P

@@ -2,6 +2,9 @@
 //! files say, whether each is of a form that is built, and the woven classes.
 #![tactic(auto)]
 
+mod built;
+mod file_names;
+mod forms;
 mod outputs;
 mod parsing;
 mod planning;

@@ -1,6 +1,0 @@
-use Rattle.std.proofs.Common.{◌≡◌, None}
-use Rattle.weave_plan.specs.Parsed.{classes_in, aspects_in, last_of}
-use Rattle.weave_plan.proofs.planning.last_of_each.Given as goal
-
-abbrev pub invariant-loop-file : goal.invariant-loop-file
-invariant-loop-file l = (l.class ≡ last_of None (classes_in l.yielded)) × (l.aspect ≡ last_of None (aspects_in l.yielded))
