@@ -10,9 +10,9 @@ ghost use Rattle.class_file.specs.WellFormed.{is_well_formed};
 ghost use Rattle.class_file.specs.Sound.{is_some_that};
 ghost use Rattle.class_file.specs.Lookup.{reference_seen};
 
-use crate::types::{Attribute, ClassFile, CodeAttr, Content, Member};
 use crate::names::{Reference, class_at, field_at, method_at, string_at, text_at};
 use crate::pool::PoolEntry;
+use crate::types::{Attribute, ClassFile, CodeAttr, Content, Member};
 use opcode_table::{Insn, decode_at};
 
 static RESERVED: [&str; 62] = [

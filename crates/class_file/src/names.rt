@@ -5,8 +5,8 @@ ghost use Rattle.std.specs.Option.{option_map, option_copied};
 ghost use Rattle.class_file.specs.Pool as named;
 ghost use Rattle.class_file.specs.Lookup.{type_seen, reference_seen};
 
-use crate::types::ClassFile;
 use crate::pool::PoolEntry;
+use crate::types::ClassFile;
 
 /// A member's name and descriptor.
 #[derive(Clone, Copy, Debug)]
