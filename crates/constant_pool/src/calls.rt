@@ -239,4 +239,28 @@ impl PoolEdit {
     {
         self.place(PoolEntry::Long(number))
     }
+
+    /// The index of a float of these bits (JVMS 4.4.4).
+    pub fn float(&mut self, bits: u32) -> Result<u16, PoolFault>
+        ensures found { Gives (with_entry self.old (PoolEntry.Float bits)) self.new result }
+        ensures full { IsFull (with_entry self.old (PoolEntry.Float bits)) result }
+        ensures fits { length self.new ≤ 65534 }
+        ensures stands { IfOk result (λ index. entry_at self.new index ≡ Some (PoolEntry.Float bits)) }
+        ensures stays { Extends self.old self.new }
+        ensures kept { OnErr result (self.new ≡ self.old) }
+    {
+        self.place(PoolEntry::Float(bits))
+    }
+
+    /// The index of a double of these bits, which takes two indices (JVMS 4.4.5).
+    pub fn double(&mut self, bits: u64) -> Result<u16, PoolFault>
+        ensures found { Gives (with_entry self.old (PoolEntry.Double bits)) self.new result }
+        ensures full { IsFull (with_entry self.old (PoolEntry.Double bits)) result }
+        ensures fits { length self.new ≤ 65534 }
+        ensures stands { IfOk result (λ index. entry_at self.new index ≡ Some (PoolEntry.Double bits)) }
+        ensures stays { Extends self.old self.new }
+        ensures kept { OnErr result (self.new ≡ self.old) }
+    {
+        self.place(PoolEntry::Double(bits))
+    }
 }

@@ -112,3 +112,18 @@ fn members_share_entries(rt: HostRuntime) -> Result<(), Fail> {
     assert!(rt; found.get(14) == Some(&PoolEntry::Fieldref(13, 14)));
     Ok(())
 }
+
+#[test]
+fn floats_and_doubles(rt: HostRuntime) -> Result<(), Fail> {
+    let alloc = rt.alloc();
+    let mut edit = PoolEdit::new(alloc, &[PoolEntry::Float(1)])?;
+    assert_eq!(rt; edit.double(1), Ok(2));
+    assert_eq!(rt; edit.float(2), Ok(4));
+    assert_eq!(rt; edit.double(1), Ok(2));
+    assert_eq!(rt; edit.float(1), Ok(1));
+    let found = edit.finish();
+    assert_eq!(rt; found.len(), 4);
+    assert!(rt; found.get(1) == Some(&PoolEntry::Double(1)));
+    assert!(rt; found.get(2) == Some(&PoolEntry::Second));
+    Ok(())
+}
