@@ -1,12 +1,16 @@
 -- How weaving ends, from how its steps ended.
-use Rattle.std.proofs.Common.{◌≡◌, ◌≢◌, ◌↔◌, ℕ, ◌<◌, ◌≤◌, inl, inr, List, length, map, Option, Some, None, Result, Ok, Err, ap, sym, ◌∙◌, subst, arith}
+use Rattle.std.proofs.Common.{◌≡◌, ◌≢◌, ◌↔◌, ℕ, ◌<◌, ◌≤◌, inl, inr, List, length, map, Option, Some, None, Result, Ok, Err, ap, sym, ◌∙◌, subst, arith, get_or, slice_get}
 use Rattle.std.specs.Prelude.{IfSome, OnOk}
 use Rattle.std.specs.Option.{option_map}
 use Rattle.std.specs.List.{filter, find}
+use Rattle.std.proofs.lemmas.List.{length-map}
+use Rattle.std.proofs.lemmas.Option.{same_Some, slice_get_within, slice_get-map, slice_get-get_or}
 use Rattle.aj_outside.specs.Counts.{Rose, ComesWithRise, last_count}
 use Rattle.aj_outside.specs.Files.{Files, names_under, put_each}
-use Rattle.jp_model.specs.Input.{IsFirst, is_big, Reads, inputs_in, is_input}
-use Rattle.weave_plan.specs.Faults.{IsFirstFault, IsFirstUnbuilt, AreTaken}
+use Rattle.jp_model.specs.Input.{IsFirst, is_big, IsFirstNotBuilt, Reads, inputs_in, is_input}
+use Rattle.weave_plan.specs.declared.planning.PlanFault.{PlanFault}
+use Rattle.weave_plan.specs.declared.planning.PlanFault.TheVariants as plan_fault
+use Rattle.weave_plan.specs.Faults.{IsFirstFault, is_faulty, IsFirstUnbuilt, AreTaken, AreRefused}
 use Rattle.weave_plan.specs.declared.planning.NamedFile.{NamedFile}
 use Rattle.weave_plan.specs.Plan.{IsPlan, files_of}
 use Rattle.ajweave.specs.declared.status.Refusal.{Refusal}
@@ -17,6 +21,9 @@ use Rattle.ajweave.specs.Words.{Folders}
 use Rattle.ajweave.specs.Answers.{most_names, in_folder, ReadFailed, AreReadable, IsRefused, IsValid, WritesWeaving, CommandedTo, CommandedSome, PutsSome}
 use Rattle.ajweave.specs.Steps.{OnStop, IsRefusal, IsReadStop, IsWriteStop, IsNoWriteStop, most_bytes, AreListed, IsMany, IsBig, IsInputRefusal, cut_at, Ends, PutsSomeTold}
 use Rattle.ajweave.proofs.Cut.{cut, IsFirst-from_cut, whole-from_cut, reads_inputs}
+
+abbrev record_of : NamedFile → List ℕ × List ℕ
+record_of f = (f.name, f.bytes.items)
 
 abbrev pub Ended : Type 0
 Ended = Result (Unit {0}) Stop
@@ -182,6 +189,11 @@ IsWhole-from_input folder (Some files) inputs i h =
     let whole = whole-from_cut most_bytes (inputs_in folder files) big small in
     (record { few = i.0; small = ap (find is_big) (sym whole) ∙ small }, i.1 ∙ whole)
 
+-- the same of these inputs, seen as slices
+pub IsWhole-seen : (folder : List ℕ) (held : Option Files) (inputs first second : List NamedFile) → first ≡ inputs → second ≡ inputs → IsInput folder held inputs → find is_big (files_of first) ≡ None → IsWhole folder held second
+IsWhole-seen folder held inputs first second f s i h =
+    subst (λ (xs : List NamedFile). IsWhole folder held xs) (sym s) (IsWhole-from_input folder held inputs i (subst (λ (xs : List NamedFile). find is_big (files_of xs) ≡ None) f h))
+
 -- ---- refused inputs
 
 refused_whole : (folders : Folders) (held : Option Files) (inputs : List NamedFile) (refusal : Refusal) → IsWhole folders.input held inputs → IsInputRefusal folders.input (files_of inputs) refusal → IfSome held (λ files. IsRefused folders.input files refusal)
@@ -238,3 +250,22 @@ writing_ends folders held held_mid held_now inputs outputs (Err stop.Write) i p 
 writing_ends folders held held_mid held_now inputs outputs (Err (stop.Refused refusal)) i p built same whole some stopped = absurd stopped
 writing_ends folders held held_mid held_now inputs outputs (Err stop.Memory) i p built same whole some stopped =
     inr (some_whole folders held held_now inputs outputs i p (subst (λ (h : Option Files). PutsSomeTold (files_of outputs) h held_now) same some))
+
+-- ---- the name of a refused input
+
+file_at_place : (files : List NamedFile) (i : ℕ) (file : NamedFile) (f : List ℕ × List ℕ) → slice_get (files_of files) i ≡ Some f → (get_or files i file).name ≡ f.0
+file_at_place files i file f stands =
+    let within : i < length (files_of files) = slice_get_within (files_of files) i f stands in
+    let long : length (files_of files) ≡ length files = length-map files record_of in
+    let here : slice_get (files_of files) i ≡ Some (record_of (get_or files i file)) =
+    slice_get-map record_of files i ∙ ap (option_map record_of) (slice_get-get_or files i file (omega arith)) in
+    ap (λ (g : List ℕ × List ℕ). g.0) (same_Some (record_of (get_or files i file)) f (sym here ∙ stands))
+
+named_so : (inputs : Files) (i : ℕ) (f : List ℕ × List ℕ) (name : List ℕ) → f.0 ≡ name → find is_faulty inputs ≡ None → IsFirstNotBuilt inputs i f → IsFirstUnbuilt inputs name
+named_so inputs i f name same read first =
+    subst (IsFirstUnbuilt inputs) same (record { read = read; first = record { place = i; bytes = f.1; first = first } })
+
+pub unbuilt_at : (files : List NamedFile) (folder : List ℕ) (i : ℕ) (file : NamedFile) (name : List ℕ) (fault : PlanFault) → fault ≡ plan_fault.NotBuilt i → (get_or files i file).name ≡ in_folder folder name → AreRefused (files_of files) fault → IsFirstUnbuilt (files_of files) (in_folder folder name)
+unbuilt_at files folder i file name fault is named h =
+    let r : AreRefused (files_of files) (plan_fault.NotBuilt i) = subst (AreRefused (files_of files)) is h in
+    named_so (files_of files) i r.0 (in_folder folder name) (sym (file_at_place files i file r.0 r.2.stands) ∙ named) r.1 r.2
