@@ -1,58 +1,31 @@
 -- What the written class keeps of the input class.
-use Rattle.std.proofs.Common.{◌≡◌, ℕ, zero, suc, Bool, true, false, not, ◌&&◌, List, [], ◌∷◌, ◌++◌, length, take, map, Option, Some, None, refl, sym, ap, subst, ◌∙◌, arith}
-use Rattle.std.specs.Prelude.{codes, slice_get, option_and_then, ◌==◌}
+use Rattle.std.proofs.Common.{◌≡◌, ℕ, zero, suc, Bool, true, false, not, ◌&&◌, List, [], ◌∷◌, ◌++◌, length, take, map, Option, Some, refl, sym, ap, subst, ◌∙◌, arith}
+use Rattle.std.specs.Prelude.{codes, ◌==◌}
 use Rattle.std.specs.Str.{bytes_eq}
 use Rattle.std.specs.List.{list_all, filter, starts_with, AllZip}
 use Rattle.std.proofs.lemmas.Bool.{and_parts, and_from, cond-true, false_from_ne_true, true≢false}
 use Rattle.std.proofs.lemmas.Slice.Eq.{bytes_eq-Decides}
 use Rattle.class_file.specs.declared.pool.PoolEntry.{PoolEntry}
-use Rattle.class_file.specs.declared.pool.PoolEntry.TheVariants as entry
 use Rattle.class_file.specs.declared.types.ClassFile.{ClassFile}
 use Rattle.class_file.specs.declared.types.Member.{Member}
 use Rattle.class_file.specs.declared.types.Attribute.{Attribute}
-use Rattle.class_file.specs.Pool.{entry_at, as_text, text_at, as_class, class_at, this_name, super_name}
+use Rattle.class_file.specs.Pool.{text_at, this_name, super_name}
 use Rattle.class_file.specs.Sound.{is_some_that}
 use Rattle.class_file.specs.FirstForm.{is_first_form, is_form_method, is_identifier, begins_with_letter, is_letter_or_digit, is_reserved, method_names, own_name, object_class}
 use Rattle.jp_model.specs.declared.first_aspect.FirstAspect.{FirstAspect}
 use Rattle.jp_model.specs.Headline.{is_code, declared_member, declared_members, has_within, is_generated, KeepsDeclared}
 use Rattle.woven_calls.specs.Woven.{IsWovenMethod, call_entries, call_index}
+use Rattle.woven_calls.specs.Laws.Grows.{is_there}
+use Rattle.woven_calls.specs.Laws.Pools.{extends_append, text_kept, class_kept}
 use Rattle.before_weave.specs.Weaving.{with_calls}
 use Rattle.before_weave.proofs.Forms.{first_parts, short_parts, method_parts, form_methods}
-use Rattle.before_weave.proofs.Untouched.{some_of}
 
 -- ---- the pool, longer
 
-pub found_through : {A B : Type 0} (o : Option A) (f : A → Option B) (y : B) → option_and_then f o ≡ Some y → (x : A) × (o ≡ Some x) × (f x ≡ Some y)
-found_through None f y e = absurd cc
-found_through (Some x) f y e = (x, refl, e)
-
-get_kept : {A : Type 0} (xs ys : List A) (k : ℕ) (x : A) → slice_get xs k ≡ Some x → slice_get (xs ++ ys) k ≡ Some x
-get_kept [] ys k x e = absurd cc
-get_kept (y ∷ xs) ys zero x e = e
-get_kept (y ∷ xs) ys (suc k) x e = get_kept xs ys k x e
-
-pub entry_kept : (pool more : List PoolEntry) (index : ℕ) (e : PoolEntry) → entry_at pool index ≡ Some e → entry_at (pool ++ more) index ≡ Some e
-entry_kept pool more zero e h = absurd cc
-entry_kept pool more (suc place) e h = get_kept pool more place e h
-
-pub text_kept : (pool more : List PoolEntry) (index : ℕ) (text : List ℕ) → text_at pool index ≡ Some text → text_at (pool ++ more) index ≡ Some text
-text_kept pool more index text h =
-    let found = found_through (entry_at pool index) as_text text h in
-    ap (option_and_then as_text) (entry_kept pool more index found.0 found.1) ∙ found.2
-
-class_entry_kept : (pool more : List PoolEntry) (e : PoolEntry) (name : List ℕ) → as_class pool e ≡ Some name → as_class (pool ++ more) e ≡ Some name
-class_entry_kept pool more (entry.Class index) name h = text_kept pool more index name h
-class_entry_kept pool more _ name h = absurd cc
-
-pub class_kept : (pool more : List PoolEntry) (index : ℕ) (name : List ℕ) → class_at pool index ≡ Some name → class_at (pool ++ more) index ≡ Some name
-class_kept pool more index name h =
-    let found = found_through (entry_at pool index) (as_class pool) name h in
-    ap (option_and_then (as_class (pool ++ more))) (entry_kept pool more index found.0 found.1) ∙ class_entry_kept pool more found.0 name found.2
-
 pub same_name : (a : FirstAspect) (c : ClassFile) (methods : List Member) → is_first_form c ≡ true → this_name (with_calls a c methods) ≡ this_name c
 same_name a c methods h =
-    let own = some_of is_identifier (this_name c) (and_parts (is_some_that is_identifier (this_name c)) (is_some_that (bytes_eq object_class) (super_name c)) (first_parts c h).names).0 in
-    class_kept c.pool (call_entries c.pool a) c.this_class own.0 own.1 ∙ sym own.1
+    let own = is_there is_identifier (this_name c) (and_parts (is_some_that is_identifier (this_name c)) (is_some_that (bytes_eq object_class) (super_name c)) (first_parts c h).names).0 in
+    class_kept c.pool (c.pool ++ call_entries c.pool a) (extends_append c.pool (call_entries c.pool a)) c.this_class own.0 own.1 ∙ sym own.1
 
 -- ---- an identifier is no generated name
 
@@ -102,7 +75,7 @@ module _ (pool more : List PoolEntry) (own : List ℕ) (names : List (List ℕ))
   plain_old [] h = refl
   plain_old (o ∷ olds) h =
       let both = and_parts (is_form_method pool own names o) (list_all (is_form_method pool own names) olds) h in
-      let name = some_of is_identifier (text_at pool o.name) (method_parts pool own names o both.0).name in
+      let name = is_there is_identifier (text_at pool o.name) (method_parts pool own names o both.0).name in
       and_from (is_plain pool o) (list_all (is_plain pool) olds) (plain_name (text_at pool o.name) name.0 name.1 name.2) (plain_old olds both.1)
 
   plain_new : (olds news : List Member) → list_all (is_form_method pool own names) olds ≡ true → AllZip (IsWovenMethod pool a index) olds news → list_all (is_plain (pool ++ more)) news ≡ true
@@ -111,8 +84,8 @@ module _ (pool more : List PoolEntry) (own : List ℕ) (names : List (List ℕ))
   plain_new (o ∷ olds) [] h z = absurd z
   plain_new (o ∷ olds) (n ∷ news) h z =
       let both = and_parts (is_form_method pool own names o) (list_all (is_form_method pool own names) olds) h in
-      let name = some_of is_identifier (text_at pool o.name) (method_parts pool own names o both.0).name in
-      let kept : text_at (pool ++ more) n.name ≡ Some name.0 = ap (λ (m : Member). text_at (pool ++ more) m.name) z.0.after ∙ text_kept pool more o.name name.0 name.1 in
+      let name = is_there is_identifier (text_at pool o.name) (method_parts pool own names o both.0).name in
+      let kept : text_at (pool ++ more) n.name ≡ Some name.0 = ap (λ (m : Member). text_at (pool ++ more) m.name) z.0.after ∙ text_kept pool (pool ++ more) (extends_append pool more) o.name name.0 name.1 in
       and_from (is_plain (pool ++ more) n) (list_all (is_plain (pool ++ more)) news) (plain_name (text_at (pool ++ more) n.name) name.0 kept name.2) (plain_new olds news both.1 z.1)
 
   same_members : (olds news : List Member) → AllZip (IsWovenMethod pool a index) olds news → map declared_member news ≡ map declared_member olds

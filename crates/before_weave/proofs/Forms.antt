@@ -1,8 +1,9 @@
 -- What the form of a class says of its parts.
-use Rattle.std.proofs.Common.{◌≡◌, ℕ, zero, suc, ◌+◌, ◌<◌, ◌≤◌, Bool, true, eqb, ltb, leb, ◌&&◌, List, [], ◌∷◌, length, Ok, Err, refl, ⊎_elim}
+use Rattle.std.proofs.Common.{◌≡◌, ℕ, zero, suc, ◌+◌, ◌<◌, ◌≤◌, Bool, true, eqb, ltb, leb, ◌&&◌, List, [], ◌∷◌, length, Ok, Err, refl, sym, ap, ◌∙◌, arith, ⊎_elim}
 use Rattle.std.specs.Prelude.{codes}
 use Rattle.std.specs.List.{list_all}
 use Rattle.std.proofs.lemmas.Bool.{eqb-true, ltb-true, leb-true, and_parts, and_from, or_cases, or_left, or_right}
+use Rattle.std.proofs.lemmas.List.{nil_from_length}
 use Rattle.opcode_table.specs.declared.insn.Insn.{Insn}
 use Rattle.opcode_table.specs.declared.insn.Insn.TheVariants as insn
 use Rattle.opcode_table.specs.Decoding.{Decoded, decoded}
@@ -12,19 +13,22 @@ use Rattle.class_file.specs.declared.types.Member.{Member}
 use Rattle.class_file.specs.declared.types.Attribute.{Attribute}
 use Rattle.class_file.specs.declared.types.Content.{Content}
 use Rattle.class_file.specs.declared.types.Content.TheVariants as content
+use Rattle.class_file.specs.declared.types.CodeAttr.{CodeAttr}
+use Rattle.class_file.specs.Text.{within}
 use Rattle.class_file.specs.Pool.{this_name, text_at}
 use Rattle.class_file.specs.Range.{is_writable}
 use Rattle.class_file.specs.Sound.{is_some_that, pool_is_sound}
-use Rattle.class_file.specs.FirstForm.{is_first_form, has_known_version, has_short_lists, has_form_names, has_form_methods, has_kept_attributes, has_form_flags, is_form_method, is_form_attribute, is_form_content, is_form_insn, is_identifier, is_text, is_single, is_plain_code, no_arguments, insns_pass, step_passes, method_names, own_name, are_distinct}
+use Rattle.class_file.specs.FirstForm.{is_first_form, has_short_lists, has_form_names, has_form_methods, has_form_flags, is_form_method, is_form_attribute, is_form_content, has_form_code, is_form_insn, is_identifier, is_text, is_single, is_plain_code, no_arguments, insns_pass, step_passes, method_names, own_name, are_distinct}
+use Rattle.class_file.specs.FirstFormLaws.{well_formed_is_writable, well_formed_is_sound}
+use Rattle.class_file.specs.WellFormed.{is_well_formed}
+use Rattle.woven_calls.specs.Woven.{with_code}
+use Rattle.woven_calls.specs.Laws.Grows.{all_still}
 use Rattle.before_weave.specs.Walk.{has_no_table, is_straight, is_straight_content, is_straight_method}
-
-pub all_weaker : {X : Type 0} (p q : X → Bool) (xs : List X) → ((x : X) → p x ≡ true → q x ≡ true) → list_all p xs ≡ true → list_all q xs ≡ true
-all_weaker p q [] h e = refl
-all_weaker p q (x ∷ xs) h e = let both = and_parts (p x) (list_all p xs) e in and_from (q x) (list_all q xs) (h x both.0) (all_weaker p q xs h both.1)
 
 -- ---- the parts of the form of a class
 
 pub record FirstParts (c : ClassFile) : Type 0 where
+  pub formed : is_well_formed c ≡ true
   pub writable : is_writable c ≡ true
   pub sound : pool_is_sound c.pool ≡ true
   pub short : has_short_lists c ≡ true
@@ -33,13 +37,10 @@ pub record FirstParts (c : ClassFile) : Type 0 where
 
 pub first_parts : (c : ClassFile) → is_first_form c ≡ true → FirstParts c
 first_parts c h =
-    let p = and_parts (is_writable c) (has_known_version c && (has_short_lists c && (pool_is_sound c.pool && (has_form_names c && (has_form_methods c && has_kept_attributes c))))) h in
-    let q = and_parts (has_known_version c) (has_short_lists c && (pool_is_sound c.pool && (has_form_names c && (has_form_methods c && has_kept_attributes c)))) p.1 in
-    let r = and_parts (has_short_lists c) (pool_is_sound c.pool && (has_form_names c && (has_form_methods c && has_kept_attributes c))) q.1 in
-    let s = and_parts (pool_is_sound c.pool) (has_form_names c && (has_form_methods c && has_kept_attributes c)) r.1 in
-    let t = and_parts (has_form_names c) (has_form_methods c && has_kept_attributes c) s.1 in
-    let u = and_parts (has_form_methods c) (has_kept_attributes c) t.1 in
-    record { writable = p.0; sound = s.0; short = r.0; names = t.0; methods = u.0 }
+    let p = and_parts (is_well_formed c) (has_short_lists c && (has_form_names c && has_form_methods c)) h in
+    let q = and_parts (has_short_lists c) (has_form_names c && has_form_methods c) p.1 in
+    let r = and_parts (has_form_names c) (has_form_methods c) q.1 in
+    record { formed = p.0; writable = well_formed_is_writable c p.0; sound = well_formed_is_sound c p.0; short = q.0; names = r.0; methods = r.1 }
 
 pub record ShortParts (c : ClassFile) : Type 0 where
   pub pool : length c.pool < 10000
@@ -81,6 +82,31 @@ form_methods c h = (and_parts (are_distinct (method_names c)) (list_all (is_form
 pub distinct_names : (c : ClassFile) → is_first_form c ≡ true → are_distinct (method_names c) ≡ true
 distinct_names c h = (and_parts (are_distinct (method_names c)) (list_all (is_form_method c.pool (own_name (this_name c)) (method_names c)) c.methods) (first_parts c h).methods).0
 
+-- the code of a method
+pub form_code : (pool : List PoolEntry) (own : List ℕ) (names : List (List ℕ)) (o : Member) (name : ℕ) (code : CodeAttr) → is_form_method pool own names o ≡ true → o.attributes ≡ with_code name code → has_form_code pool own names code ≡ true
+form_code pool own names o name code form e =
+    let single : is_single (is_form_attribute pool own names) (with_code name code) ≡ true = ap (is_single (is_form_attribute pool own names)) (sym e) ∙ (method_parts pool own names o form).single in
+    (and_parts (is_text pool (codes "Code") name) (has_form_code pool own names code) single).1
+
+pub record PlainParts (code : CodeAttr) : Type 0 where
+  pub entries : code.entries ≡ []
+  pub attributes : code.attributes ≡ []
+  pub some : 1 ≤ length code.code
+  pub few : length code.code ≤ 1000
+
+pub plain_parts : (code : CodeAttr) → is_plain_code code ≡ true → PlainParts code
+plain_parts code h =
+    let p = and_parts (eqb (length code.entries) 0) (eqb (length code.attributes) 0 && within 1 1001 (length code.code)) h in
+    let q = and_parts (eqb (length code.attributes) 0) (within 1 1001 (length code.code)) p.1 in
+    let r = and_parts (leb 1 (length code.code)) (ltb (length code.code) 1001) q.1 in
+    let few = ltb-true (length code.code) 1001 r.1 in
+    record {
+      entries = nil_from_length code.entries (eqb-true (length code.entries) 0 p.0);
+      attributes = nil_from_length code.attributes (eqb-true (length code.attributes) 0 q.0);
+      some = leb-true 1 (length code.code) r.0;
+      few = omega arith;
+    }
+
 -- ---- straight code
 
 step_weaker : (p q : Insn → Bool) (f g : ℕ → Bool) (pc : ℕ) (d : Decoded) → ((i : Insn) → p i ≡ true → q i ≡ true) → ((n : ℕ) → f n ≡ true → g n ≡ true) → step_passes p f pc d ≡ true → step_passes q g pc d ≡ true
@@ -114,6 +140,6 @@ straight_attributes pool own methods (a ∷ b ∷ rest) h = absurd cc
 
 pub straight_methods : (c : ClassFile) → is_first_form c ≡ true → list_all is_straight_method c.methods ≡ true
 straight_methods c h =
-    all_weaker (is_form_method c.pool (own_name (this_name c)) (method_names c)) is_straight_method c.methods
+    all_still (is_form_method c.pool (own_name (this_name c)) (method_names c)) is_straight_method c.methods
     (λ m e. straight_attributes c.pool (own_name (this_name c)) (method_names c) m.attributes (method_parts c.pool (own_name (this_name c)) (method_names c) m e).single)
     (form_methods c h)

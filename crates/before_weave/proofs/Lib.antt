@@ -7,4 +7,5 @@ mod Untouched
 mod Declared
 mod Writable
 mod Sound
+mod Formed
 mod Whole

@@ -1,6 +1,6 @@
 -- The pools of the written classes are sound.
-use Rattle.std.proofs.Common.{◌≡◌, ℕ, suc, ◌+◌, ◌<◌, ◌≤◌, Bool, true, false, eqb, ltb, leb, not, ◌&&◌, List, [], ◌∷◌, ◌++◌, length, Option, Some, None, refl, sym, ap, ◌∙◌, arith, ⊎_elim}
-use Rattle.std.specs.Prelude.{codes, slice_get, option_and_then, is_some}
+use Rattle.std.proofs.Common.{◌≡◌, ℕ, ◌+◌, ◌<◌, ◌≤◌, Bool, true, false, eqb, ltb, leb, not, ◌&&◌, List, [], ◌∷◌, ◌++◌, length, Some, refl, sym, ap, ◌∙◌, arith, ⊎_elim}
+use Rattle.std.specs.Prelude.{codes, is_some}
 use Rattle.std.specs.List.{list_all}
 use Rattle.std.proofs.lemmas.Bool.{eqb-true, ltb-true, leb-true, lt-ltb, le-leb, and_parts, and_from, or_cases, or_left, not_from_false, false_from_ne_true, true≢false}
 use Rattle.std.proofs.lemmas.List.Folds.{list_all-append}
@@ -8,16 +8,16 @@ use Rattle.class_file.specs.declared.pool.PoolEntry.{PoolEntry}
 use Rattle.class_file.specs.declared.pool.PoolEntry.TheVariants as entry
 use Rattle.class_file.specs.declared.types.ClassFile.{ClassFile}
 use Rattle.class_file.specs.Text.{within, begun, utf8_from, is_utf8, is_paired, is_name_byte, is_name_text, has_parts, is_class_name, is_array_descriptor, is_internal_name, is_member_name}
-use Rattle.class_file.specs.Pool.{NamedType, entry_at, as_text, text_at, as_class, class_at, as_named_type, named_type_at}
+use Rattle.class_file.specs.Pool.{text_at, class_at, named_type_at}
 use Rattle.class_file.specs.Range.{pool_fits}
-use Rattle.class_file.specs.Sound.{is_some_that, is_wide, is_second, seconds_follow, is_descriptor, of_field, of_method, entry_is_sound, entries_agree, pool_is_sound}
+use Rattle.class_file.specs.Sound.{is_some_that, is_wide, is_second, seconds_follow, is_descriptor, of_method, entry_is_sound, entries_agree, pool_is_sound}
 use Rattle.class_file.specs.FirstForm.{is_first_form, is_letter, is_digit, is_letter_or_digit, is_printable, is_reserved, is_identifier, begins_with_letter}
 use Rattle.jp_model.specs.declared.first_aspect.FirstAspect.{FirstAspect}
 use Rattle.jp_model.specs.AspectText.{is_first_aspect}
 use Rattle.woven_calls.specs.Woven.{advice_name, call_entries, aspect_pool}
-use Rattle.before_weave.proofs.Forms.{all_weaker, first_parts, short_parts}
-use Rattle.before_weave.proofs.Untouched.{some_of}
-use Rattle.before_weave.proofs.Declared.{found_through, text_kept, class_kept, entry_kept}
+use Rattle.woven_calls.specs.Laws.Pools.{extends_append, text_slot, call_class, call_type}
+use Rattle.woven_calls.specs.Laws.Grows.{all_still, pool_grows-entry}
+use Rattle.before_weave.proofs.Forms.{first_parts, short_parts}
 use Rattle.before_weave.proofs.Writable.{aspect_parts, pool_still_fits, aspect_pool_fits}
 
 -- ---- texts of ASCII
@@ -47,7 +47,7 @@ letter_ascii b h =
     (λ d. ascii_within 48 58 b (omega arith) (omega arith) d) (or_cases (is_letter b) (is_digit b) h)
 
 pub printable_utf8 : (text : List ℕ) → list_all is_printable text ≡ true → is_utf8 text ≡ true
-printable_utf8 text h = utf8_ascii text (all_weaker is_printable is_ascii text (λ b e. ascii_within 32 127 b (omega arith) (omega arith) e) h)
+printable_utf8 text h = utf8_ascii text (all_still is_printable is_ascii text (λ b e. ascii_within 32 127 b (omega arith) (omega arith) e) h)
 
 -- ---- identifiers are names
 
@@ -86,69 +86,21 @@ pub identifier_utf8 : (name : List ℕ) → is_identifier name ≡ true → is_u
 identifier_utf8 name h =
     let p = and_parts (begins_with_letter name) (list_all is_letter_or_digit name && not (is_reserved name)) h in
     let q = and_parts (list_all is_letter_or_digit name) (not (is_reserved name)) p.1 in
-    utf8_ascii name (all_weaker is_letter_or_digit is_ascii name letter_ascii q.0)
+    utf8_ascii name (all_still is_letter_or_digit is_ascii name letter_ascii q.0)
 
-pub identifier_internal : (name : List ℕ) → is_identifier name ≡ true → is_internal_name name ≡ true
-identifier_internal name h =
+pub identifier_class : (name : List ℕ) → is_identifier name ≡ true → is_class_name name ≡ true
+identifier_class name h =
     let p = and_parts (begins_with_letter name) (list_all is_letter_or_digit name && not (is_reserved name)) h in
     let q = and_parts (list_all is_letter_or_digit name) (not (is_reserved name)) p.1 in
-    or_left (is_class_name name) (is_array_descriptor name)
-    (and_from (is_name_text name) (has_parts true name)
+    and_from (is_name_text name) (has_parts true name)
     (and_from (is_utf8 name) (is_paired name && list_all is_name_byte name) (identifier_utf8 name h)
-    (and_from (is_paired name) (list_all is_name_byte name) (letters_paired name q.0) (all_weaker is_letter_or_digit is_name_byte name letter_names q.0)))
-    (some_parts name p.0 q.0))
+    (and_from (is_paired name) (list_all is_name_byte name) (letters_paired name q.0) (all_still is_letter_or_digit is_name_byte name letter_names q.0)))
+    (some_parts name p.0 q.0)
+
+pub identifier_internal : (name : List ℕ) → is_identifier name ≡ true → is_internal_name name ≡ true
+identifier_internal name h = or_left (is_class_name name) (is_array_descriptor name) (identifier_class name h)
 
 -- ---- what was sound stays so in a longer pool
-
-some_is : {X : Type 0} (o : Option X) → is_some o ≡ true → (x : X) × (o ≡ Some x)
-some_is None h = absurd cc
-some_is (Some x) h = (x, refl)
-
-abbrev typed : Option (List ℕ) → Option (List ℕ) → Option NamedType
-typed name descriptor = option_and_then (λ n. option_and_then (λ d. Some (record { name = n; descriptor = d })) descriptor) name
-
-typed_kept : (n d n' d' : Option (List ℕ)) (t : NamedType) → typed n d ≡ Some t → ((x : List ℕ) → n ≡ Some x → n' ≡ Some x) → ((x : List ℕ) → d ≡ Some x → d' ≡ Some x) → typed n' d' ≡ Some t
-typed_kept None d n' d' t h f g = absurd cc
-typed_kept (Some n) None n' d' t h f g = absurd cc
-typed_kept (Some n) (Some d) n' d' t h f g = ap (λ o. typed o d') (f n refl) ∙ ap (λ o. typed (Some n) o) (g d refl) ∙ h
-
-module _ (pool more : List PoolEntry) where
-  text_passes : (test : List ℕ → Bool) (index : ℕ) → is_some_that test (text_at pool index) ≡ true → is_some_that test (text_at (pool ++ more) index) ≡ true
-  text_passes test index h = let found = some_of test (text_at pool index) h in ap (is_some_that test) (text_kept pool more index found.0 found.1) ∙ found.2
-
-  text_there : (index : ℕ) → is_some (text_at pool index) ≡ true → is_some (text_at (pool ++ more) index) ≡ true
-  text_there index h = let found = some_is (text_at pool index) h in ap is_some (text_kept pool more index found.0 found.1)
-
-  class_there : (index : ℕ) → is_some (class_at pool index) ≡ true → is_some (class_at (pool ++ more) index) ≡ true
-  class_there index h = let found = some_is (class_at pool index) h in ap is_some (class_kept pool more index found.0 found.1)
-
-  named_entry_kept : (e : PoolEntry) (t : NamedType) → as_named_type pool e ≡ Some t → as_named_type (pool ++ more) e ≡ Some t
-  named_entry_kept (entry.NameAndType n d) t h = typed_kept (text_at pool n) (text_at pool d) (text_at (pool ++ more) n) (text_at (pool ++ more) d) t h (text_kept pool more n) (text_kept pool more d)
-  named_entry_kept _ t h = absurd cc
-
-  named_kept : (index : ℕ) (t : NamedType) → named_type_at pool index ≡ Some t → named_type_at (pool ++ more) index ≡ Some t
-  named_kept index t h =
-      let found = found_through (entry_at pool index) (as_named_type pool) t h in
-      ap (option_and_then (as_named_type (pool ++ more))) (entry_kept pool more index found.0 found.1) ∙ named_entry_kept found.0 t found.2
-
-  named_passes : (test : NamedType → Bool) (index : ℕ) → is_some_that test (named_type_at pool index) ≡ true → is_some_that test (named_type_at (pool ++ more) index) ≡ true
-  named_passes test index h = let found = some_of test (named_type_at pool index) h in ap (is_some_that test) (named_kept index found.0 found.1) ∙ found.2
-
-  member_passes : (test : NamedType → Bool) (class member : ℕ) → (is_some (class_at pool class) && is_some_that test (named_type_at pool member)) ≡ true → (is_some (class_at (pool ++ more) class) && is_some_that test (named_type_at (pool ++ more) member)) ≡ true
-  member_passes test class member h =
-      let parts = and_parts (is_some (class_at pool class)) (is_some_that test (named_type_at pool member)) h in
-      and_from (is_some (class_at (pool ++ more) class)) (is_some_that test (named_type_at (pool ++ more) member)) (class_there class parts.0) (named_passes test member parts.1)
-
-  entry_stays : (e : PoolEntry) → entry_is_sound pool e ≡ true → entry_is_sound (pool ++ more) e ≡ true
-  entry_stays (entry.Class name) h = text_passes is_internal_name name h
-  entry_stays (entry.String text) h = text_there text h
-  entry_stays (entry.Fieldref class member) h = member_passes of_field class member h
-  entry_stays (entry.Methodref class member) h = member_passes of_method class member h
-  entry_stays (entry.InterfaceMethodref class member) h = member_passes of_method class member h
-  entry_stays (entry.NameAndType name descriptor) h =
-      let parts = and_parts (is_some_that is_member_name (text_at pool name)) (is_some_that is_descriptor (text_at pool descriptor)) h in
-      and_from (is_some_that is_member_name (text_at (pool ++ more) name)) (is_some_that is_descriptor (text_at (pool ++ more) descriptor)) (text_passes is_member_name name parts.0) (text_passes is_descriptor descriptor parts.1)
-  entry_stays _ h = h
 
 seconds_append : (wide : Bool) (xs ys : List PoolEntry) → seconds_follow wide xs ≡ true → seconds_follow false ys ≡ true → seconds_follow wide (xs ++ ys) ≡ true
 seconds_append true [] ys h e = absurd cc
@@ -161,15 +113,6 @@ seconds_append false (x ∷ xs) ys h e =
     and_from (not (is_second x)) (seconds_follow (is_wide x) (xs ++ ys)) parts.0 (seconds_append (is_wide x) xs ys parts.1 e)
 
 -- ---- the entries behind the pool
-
-get_behind : {A : Type 0} (xs ys : List A) (k : ℕ) → slice_get (xs ++ ys) (length xs + k) ≡ slice_get ys k
-get_behind [] ys k = let e : 0 + k ≡ k = omega arith in ap (slice_get ys) e
-get_behind (x ∷ xs) ys k =
-    let e : length (x ∷ xs) + k ≡ suc (length xs + k) = omega arith in
-    ap (slice_get (x ∷ xs ++ ys)) e ∙ get_behind xs ys k
-
-entry_behind : (pool more : List PoolEntry) (index k : ℕ) → index ≡ suc (length pool + k) → entry_at (pool ++ more) index ≡ slice_get more k
-entry_behind pool more index k e = ap (entry_at (pool ++ more)) e ∙ get_behind pool more k
 
 advice_named : is_member_name advice_name ≡ true
 advice_named = refl
@@ -188,21 +131,13 @@ module _ (pool : List PoolEntry) (a : FirstAspect) (first : is_first_aspect a �
   start = length pool + 1
 
   name_there : text_at longer start ≡ Some a.name
-  name_there = ap (option_and_then as_text) (entry_behind pool (call_entries pool a) start 0 (omega arith))
+  name_there = text_slot pool a 0 start a.name (omega arith) refl
 
   advice_there : text_at longer (start + 2) ≡ Some advice_name
-  advice_there = ap (option_and_then as_text) (entry_behind pool (call_entries pool a) (start + 2) 2 (omega arith))
+  advice_there = text_slot pool a 2 (start + 2) advice_name (omega arith) refl
 
   descriptor_there : text_at longer (start + 3) ≡ Some (codes "()V")
-  descriptor_there = ap (option_and_then as_text) (entry_behind pool (call_entries pool a) (start + 3) 3 (omega arith))
-
-  class_behind : class_at longer (start + 1) ≡ Some a.name
-  class_behind = ap (option_and_then (as_class longer)) (entry_behind pool (call_entries pool a) (start + 1) 1 (omega arith)) ∙ name_there
-
-  named_behind : named_type_at longer (start + 4) ≡ Some (record { name = advice_name; descriptor = codes "()V" })
-  named_behind =
-      ap (option_and_then (as_named_type longer)) (entry_behind pool (call_entries pool a) (start + 4) 4 (omega arith))
-      ∙ ap (λ o. typed o (text_at longer (start + 3))) advice_there ∙ ap (λ o. typed (Some advice_name) o) descriptor_there
+  descriptor_there = text_slot pool a 3 (start + 3) (codes "()V") (omega arith) refl
 
   calls_sound : list_all (entry_is_sound longer) (call_entries pool a) ≡ true
   calls_sound =
@@ -214,7 +149,7 @@ module _ (pool : List PoolEntry) (a : FirstAspect) (first : is_first_aspect a �
       (ap (is_some_that is_member_name) advice_there ∙ advice_named) (ap (is_some_that is_descriptor) descriptor_there ∙ no_parameters_described) in
       let method : entry_is_sound longer (entry.Methodref (start + 1) (start + 4)) ≡ true =
       and_from (is_some (class_at longer (start + 1))) (is_some_that of_method (named_type_at longer (start + 4)))
-      (ap is_some class_behind) (ap (is_some_that of_method) named_behind ∙ no_parameters_method advice_name) in
+      (ap is_some (call_class pool a)) (ap (is_some_that of_method) (call_type pool a) ∙ no_parameters_method advice_name) in
       let last : Bool = entry_is_sound longer (entry.Methodref (start + 1) (start + 4)) && true in
       let two : Bool = entry_is_sound longer (entry.NameAndType (start + 2) (start + 3)) && last in
       and_from (is_utf8 a.name) (is_some_that is_internal_name (text_at longer start) && two) utf8
@@ -230,7 +165,7 @@ module _ (pool : List PoolEntry) (a : FirstAspect) (first : is_first_aspect a �
       (and_from (seconds_follow false longer) (list_all (entry_is_sound longer) longer) (seconds_append false pool (call_entries pool a) agree.0 refl)
       (list_all-append (entry_is_sound longer) pool (call_entries pool a)
       ∙ and_from (list_all (entry_is_sound longer) pool) (list_all (entry_is_sound longer) (call_entries pool a))
-      (all_weaker (entry_is_sound pool) (entry_is_sound longer) pool (entry_stays pool (call_entries pool a)) agree.1) calls_sound))
+      (all_still (entry_is_sound pool) (entry_is_sound longer) pool (pool_grows-entry pool longer (extends_append pool (call_entries pool a))) agree.1) calls_sound))
 
 pub woven_sound : (a : FirstAspect) (c : ClassFile) → is_first_form c ≡ true → is_first_aspect a ≡ true → pool_is_sound (c.pool ++ call_entries c.pool a) ≡ true
 woven_sound a c h first = longer_sound c.pool a first (short_parts c h).pool (first_parts c h).sound

@@ -1,5 +1,5 @@
 -- A class with an advised call is not untouched.
-use Rattle.std.proofs.Common.{◌≡◌, ℕ, zero, suc, ◌<◌, Bool, true, not, List, [], ◌∷◌, ◌++◌, length, length-append, get_or, Option, Some, None, Ok, refl, sym, ap, subst, ◌∙◌, append_assoc, arith, ⊎_elim}
+use Rattle.std.proofs.Common.{◌≡◌, ℕ, zero, suc, ◌<◌, Bool, true, not, List, [], ◌∷◌, ◌++◌, length, length-append, get_or, Some, None, Ok, sym, ap, subst, ◌∙◌, append_assoc, arith, ⊎_elim}
 use Rattle.std.specs.Prelude.{codes, bit_and}
 use Rattle.std.specs.Option.{option_map}
 use Rattle.std.specs.List.{list_all, list_any, flat_map, AllByRecursion, Any}
@@ -16,7 +16,6 @@ use Rattle.class_file.specs.declared.types.Member.{Member}
 use Rattle.class_file.specs.declared.types.Content.TheVariants as content
 use Rattle.class_file.specs.declared.types.CodeAttr.{CodeAttr}
 use Rattle.class_file.specs.Pool.{this_name}
-use Rattle.class_file.specs.Sound.{is_some_that}
 use Rattle.class_file.specs.FirstForm.{is_first_form, has_form_flags, is_form_method, is_form_attribute, is_form_content, is_single, is_text, method_names, own_name}
 use Rattle.jp_model.specs.declared.first_aspect.FirstAspect.{FirstAspect}
 use Rattle.jp_model.specs.AspectText.{aspect_of}
@@ -29,11 +28,7 @@ use Rattle.before_weave.specs.Walk.{HasCalls}
 use Rattle.before_weave.proofs.Advised.{agrees}
 use Rattle.before_weave.proofs.Forms.{MethodParts, method_parts, form_methods}
 
--- ---- a value that passes
-
-pub some_of : {X : Type 0} (test : X → Bool) (o : Option X) → is_some_that test o ≡ true → (x : X) × (o ≡ Some x) × (test x ≡ true)
-some_of test None h = absurd cc
-some_of test (Some x) h = (x, refl, h)
+-- ---- a list whose elements pass
 
 -- each element passes, also the one at k
 pub all_get : {X : Type 0} (p : X → Bool) (xs : List X) (k : ℕ) (x : X) → list_all p xs ≡ true → k < length xs → get_or xs k x ≡ x → p x ≡ true

@@ -14,20 +14,20 @@ use Rattle.jp_model.specs.declared.first_aspect.FirstAspect.{FirstAspect}
 use Rattle.woven_calls.specs.Woven.{unless, is_unadvised, woven_insn, IsWovenCode, IsWovenMethod, IsUnadvisedMethod, call_index}
 use Rattle.before_weave.specs.Marks.{marks_of, is_advised}
 use Rattle.before_weave.specs.Walk.{marked_insn, IsMarkedCode, IsMarkedMethod, HasCalls, AreMarkedMethods}
-use Rattle.before_weave.specs.Weaving.{with_calls, IsWeaving, Woven, Kept}
+use Rattle.before_weave.specs.Weaving.{with_calls, IsClassWeaving, Woven, Kept}
 use Rattle.before_weave.proofs.Advised.{agrees}
 
 flat_same : {X : Type 0} (f g : X → List ℕ) (xs : List X) → ((x : X) → f x ≡ g x) → flat_map f xs ≡ flat_map g xs
 flat_same f g [] h = refl
 flat_same f g (x ∷ xs) h = ap (λ t. t ++ flat_map f xs) (h x) ∙ ap (λ t. g x ++ t) (flat_same f g xs h)
 
-zip_weaker : {X : Type 0} (R S : X → X → Type 0) (xs ys : List X) → ((x y : X) → R x y → S x y) → AllZip R xs ys → AllZip S xs ys
+pub zip_weaker : {X : Type 0} (R S : X → X → Type 0) (xs ys : List X) → ((x y : X) → R x y → S x y) → AllZip R xs ys → AllZip S xs ys
 zip_weaker R S [] [] h e = tt
 zip_weaker R S [] (y ∷ ys) h e = absurd e
 zip_weaker R S (x ∷ xs) [] h e = absurd e
 zip_weaker R S (x ∷ xs) (y ∷ ys) h e = (h x y e.0, zip_weaker R S xs ys h e.1)
 
-each_weaker : {X : Type 0} (P Q : X → Type 0) (xs : List X) → ((x : X) → P x → Q x) → AllByRecursion P xs → AllByRecursion Q xs
+pub each_weaker : {X : Type 0} (P Q : X → Type 0) (xs : List X) → ((x : X) → P x → Q x) → AllByRecursion P xs → AllByRecursion Q xs
 each_weaker P Q [] h e = tt
 each_weaker P Q (x ∷ xs) h e = (h x e.0, each_weaker P Q xs h e.1)
 
@@ -69,7 +69,7 @@ module _ (pool : List PoolEntry) (a : FirstAspect) where
 
 pub woven_class : (a : FirstAspect) (c w : ClassFile) (marks : List Bool) (index : ℕ) (methods : List Member) (advised : Bool)
     → marks ≡ marks_of c.pool a → index ≡ call_index c.pool → AreMarkedMethods marks index c.methods methods advised → advised ≡ true
-    → w ≡ with_calls a c methods → IsWeaving a c w
+    → w ≡ with_calls a c methods → IsClassWeaving a c w
 woven_class a c w marks index methods advised m i made some is =
     let made' : AreMarkedMethods (marks_of c.pool a) (call_index c.pool) c.methods methods true =
     subst (λ (l : List Bool). AreMarkedMethods l (call_index c.pool) c.methods methods true) m
@@ -82,7 +82,7 @@ woven_class a c w marks index methods advised m i made some is =
     })
 
 pub kept_class : (a : FirstAspect) (c w : ClassFile) (marks : List Bool) (index : ℕ) (methods : List Member) (advised : Bool)
-    → marks ≡ marks_of c.pool a → AreMarkedMethods marks index c.methods methods advised → advised ≡ false → w ≡ c → IsWeaving a c w
+    → marks ≡ marks_of c.pool a → AreMarkedMethods marks index c.methods methods advised → advised ≡ false → w ≡ c → IsClassWeaving a c w
 kept_class a c w marks index methods advised m made none is =
     let made' : AreMarkedMethods (marks_of c.pool a) index c.methods methods false =
     subst (λ (l : List Bool). AreMarkedMethods l index c.methods methods false) m

@@ -1,10 +1,10 @@
 -- The written class can be written.
-use Rattle.std.proofs.Common.{◌≡◌, ℕ, ◌+◌, ◌*◌, ◌<◌, ◌≤◌, Bool, true, false, eqb, ltb, leb, not, ◌&&◌, List, [], ◌∷◌, ◌++◌, length, length-append, refl, sym, ap, ◌∙◌, arith, ⊎_elim}
+use Rattle.std.proofs.Common.{◌≡◌, ℕ, ◌+◌, ◌*◌, ◌<◌, ◌≤◌, Bool, true, false, ltb, leb, not, ◌&&◌, List, [], ◌∷◌, ◌++◌, length, length-append, refl, sym, ap, ◌∙◌, arith, ⊎_elim}
 use Rattle.std.specs.Prelude.{codes, ◌/◌, ◌%◌}
 use Rattle.std.specs.Str.{bytes_eq}
 use Rattle.std.specs.List.{list_all, flat_map, AllZip, AllByRecursion}
 use Rattle.std.specs.Int.{w16, to_be_bytes}
-use Rattle.std.proofs.lemmas.Bool.{eqb-true, ltb-true, leb-true, lt-ltb, and_parts, and_from, or_cases}
+use Rattle.std.proofs.lemmas.Bool.{ltb-true, leb-true, lt-ltb, and_parts, and_from, or_cases}
 use Rattle.std.proofs.lemmas.List.Folds.{list_all-append}
 use Rattle.std.proofs.lemmas.List.Elements.{length_all_zip}
 use Rattle.opcode_table.specs.declared.insn.Insn.{Insn}
@@ -21,13 +21,15 @@ use Rattle.class_file.specs.Pool.{this_name}
 use Rattle.class_file.specs.Text.{within}
 use Rattle.class_file.specs.Range.{is_u1, is_u2, is_u4, are_bytes, counted_fits, entry_fits, pool_fits, exception_fits, code_attribute_fits, code_fits, attribute_fits, member_fits, is_writable}
 use Rattle.class_file.specs.Spelling.{spelled_content}
-use Rattle.class_file.specs.FirstForm.{is_first_form, is_letter, is_digit, is_letter_or_digit, is_printable, is_printable_text, is_reserved, is_identifier, begins_with_letter, is_plain_code, is_form_insn, is_form_method, is_form_attribute, insns_pass, is_single, is_text, method_names, own_name}
+use Rattle.class_file.specs.FirstForm.{is_first_form, is_letter, is_digit, is_letter_or_digit, is_printable, is_printable_text, is_reserved, is_identifier, begins_with_letter, is_plain_code, is_form_insn, is_form_method, insns_pass, method_names, own_name}
 use Rattle.jp_model.specs.declared.first_aspect.FirstAspect.{FirstAspect}
 use Rattle.jp_model.specs.AspectText.{is_first_aspect, is_short_identifier, is_literal, is_unescaped, aspect_of}
 use Rattle.jp_model.specs.Headline.{IsAspectClass}
 use Rattle.woven_calls.specs.Woven.{unless, is_unadvised, woven_insn, with_code, IsWovenCode, IsWovenMethod, call_entries, call_index, aspect_class, aspect_pool}
+use Rattle.woven_calls.specs.Laws.Grows.{all_still}
 use Rattle.before_weave.specs.Weaving.{with_calls}
-use Rattle.before_weave.proofs.Forms.{all_weaker, first_parts, short_parts, method_parts, form_methods}
+use Rattle.woven_calls.specs.Laws.StraightCode.{spelled_some}
+use Rattle.before_weave.proofs.Forms.{first_parts, short_parts, form_methods, form_code, PlainParts, plain_parts}
 
 -- ---- bytes of texts
 
@@ -66,9 +68,9 @@ aspect_parts a h =
       identifier = name.0;
       printable = text.0;
       name_length = lt-ltb (length a.name) 65536 (omega arith);
-      name_bytes = all_weaker is_letter_or_digit is_u1 a.name letter_is_byte all.0;
+      name_bytes = all_still is_letter_or_digit is_u1 a.name letter_is_byte all.0;
       text_length = lt-ltb (length a.text) 65536 (omega arith);
-      text_bytes = all_weaker is_printable is_u1 a.text (λ b e. below_byte 32 127 b (omega arith) e) text.0;
+      text_bytes = all_still is_printable is_u1 a.text (λ b e. below_byte 32 127 b (omega arith) e) text.0;
     }
 
 -- ---- the pool
@@ -102,16 +104,6 @@ pool_still_fits pool a h lt e =
 
 -- ---- code
 
-spelled_some : (i : Insn) → IsSingle i → 1 ≤ length (spelling i)
-unfolding spelling
-spelled_some (insn.Local op index true) s = omega arith
-spelled_some (insn.Local op index false) s = omega arith
-spelled_some (insn.Iinc index by true) s = omega arith
-spelled_some (insn.Iinc index by false) s = omega arith
-spelled_some (insn.TableSwitch table) s = absurd s
-spelled_some (insn.LookupSwitch table) s = absurd s
-spelled_some _ s = omega arith
-
 call_is : (index : ℕ) → spelling (insn.Pool 184 index) ≡ 184 ∷ to_be_bytes w16 index
 unfolding spelling opcode
 call_is index = refl
@@ -134,7 +126,7 @@ unless_bytes true call e = refl
 unless_bytes false call e = e
 
 module _ (pool : List PoolEntry) (a : FirstAspect) (index : ℕ) where
-  grown : (insns : List Insn) → AllByRecursion (λ i. IsInsn i × IsSingle i) insns → length (flat_map (woven_insn pool a index) insns) ≤ 4 * length (flat_map spelling insns)
+  pub grown : (insns : List Insn) → AllByRecursion (λ i. IsInsn i × IsSingle i) insns → length (flat_map (woven_insn pool a index) insns) ≤ 4 * length (flat_map spelling insns)
   grown [] s = omega arith
   grown (i ∷ insns) s =
       let call : List ℕ = spelling (insn.Pool 184 index) in
@@ -143,6 +135,15 @@ module _ (pool : List PoolEntry) (a : FirstAspect) (index : ℕ) where
       let rest = grown insns s.1 in
       let l1 = length-append (woven_insn pool a index i) (flat_map (woven_insn pool a index) insns) in
       let l2 = length-append (unless (is_unadvised pool a i) call) (spelling i) in
+      let l3 = length-append (spelling i) (flat_map spelling insns) in
+      omega arith
+
+  pub not_shrunk : (insns : List Insn) → length (flat_map spelling insns) ≤ length (flat_map (woven_insn pool a index) insns)
+  not_shrunk [] = omega arith
+  not_shrunk (i ∷ insns) =
+      let rest = not_shrunk insns in
+      let l1 = length-append (woven_insn pool a index i) (flat_map (woven_insn pool a index) insns) in
+      let l2 = length-append (unless (is_unadvised pool a i) (spelling (insn.Pool 184 index))) (spelling i) in
       let l3 = length-append (spelling i) (flat_map spelling insns) in
       omega arith
 
@@ -156,10 +157,6 @@ module _ (pool : List PoolEntry) (a : FirstAspect) (index : ℕ) where
       (list_all-append is_u1 (unless (is_unadvised pool a i) call) (spelling i)
       ∙ both (are_bytes (unless (is_unadvised pool a i) call)) (are_bytes (spelling i)) (unless_bytes (is_unadvised pool a i) call (call_bytes index)) parts.0)
       (still_bytes insns parts.1)
-
-nil_of : {X : Type 0} (xs : List X) → length xs ≡ 0 → xs ≡ []
-nil_of [] h = refl
-nil_of (x ∷ xs) h = absurd (omega arith)
 
 abbrev plain_code : ℕ → ℕ → List ℕ → CodeAttr
 plain_code stack locals bytes = record { max_stack = stack; max_locals = locals; code = bytes; entries = []; attributes = [] }
@@ -180,25 +177,8 @@ plain_fits name stack locals bytes n s l b le =
 
 -- ---- methods
 
-abbrev coded : ℕ → ℕ → List ℕ → CodeAttr → CodeAttr
+abbrev pub coded : ℕ → ℕ → List ℕ → CodeAttr → CodeAttr
 coded stack locals bytes code = record { max_stack = stack; max_locals = locals; code = bytes; entries = code.entries; attributes = code.attributes }
-
-pub record PlainParts (code : CodeAttr) : Type 0 where
-  pub entries : code.entries ≡ []
-  pub attributes : code.attributes ≡ []
-  pub few : length code.code ≤ 1000
-
-plain_parts : (code : CodeAttr) → is_plain_code code ≡ true → PlainParts code
-plain_parts code h =
-    let p = and_parts (eqb (length code.entries) 0) (eqb (length code.attributes) 0 && within 1 1001 (length code.code)) h in
-    let q = and_parts (eqb (length code.attributes) 0) (within 1 1001 (length code.code)) p.1 in
-    let r = and_parts (leb 1 (length code.code)) (ltb (length code.code) 1001) q.1 in
-    let few = ltb-true (length code.code) 1001 r.1 in
-    record {
-      entries = nil_of code.entries (eqb-true (length code.entries) 0 p.0);
-      attributes = nil_of code.attributes (eqb-true (length code.attributes) 0 q.0);
-      few = omega arith;
-    }
 
 pub record CodeParts (name : ℕ) (code : CodeAttr) : Type 0 where
   pub name_fits : is_u2 name ≡ true
@@ -220,12 +200,6 @@ code_parts name code h =
     record { name_fits = p.0; stack = r.0; locals = s.0; bytes = u.0 }
 
 module _ (pool : List PoolEntry) (a : FirstAspect) (index : ℕ) (own : List ℕ) (names : List (List ℕ)) where
-  plain_of : (o : Member) (name : ℕ) (code : CodeAttr) → is_single (is_form_attribute pool own names) o.attributes ≡ true → o.attributes ≡ with_code name code → PlainParts code
-  plain_of o name code h e =
-      let single : is_single (is_form_attribute pool own names) (with_code name code) ≡ true = ap (is_single (is_form_attribute pool own names)) (sym e) ∙ h in
-      let form = and_parts (is_text pool (codes "Code") name) (is_plain_code code && insns_pass (is_form_insn pool own names) code.code (length code.code) 0) single in
-      plain_parts code (and_parts (is_plain_code code) (insns_pass (is_form_insn pool own names) code.code (length code.code) 0) form.1).0
-
   woven_code_fits : (name : ℕ) (code : CodeAttr) (bytes : List ℕ) → CodeParts name code → PlainParts code → IsWovenCode pool a index code.code bytes → counted_fits attribute_fits (with_code name (coded code.max_stack code.max_locals bytes code)) ≡ true
   woven_code_fits name code bytes parts plain w =
       let few = plain.few in
@@ -244,7 +218,7 @@ module _ (pool : List PoolEntry) (a : FirstAspect) (index : ℕ) (own : List ℕ
       let q = and_parts (is_u2 o.name) (is_u2 o.descriptor && counted_fits attribute_fits o.attributes) p.1 in
       let r = and_parts (is_u2 o.descriptor) (counted_fits attribute_fits o.attributes) q.1 in
       let code = code_parts w.name w.code (ap (counted_fits attribute_fits) (sym w.before) ∙ r.1) in
-      let plain = plain_of o w.name w.code (method_parts pool own names o form).single w.before in
+      let plain = plain_parts w.code (and_parts (is_plain_code w.code) (insns_pass (is_form_insn pool own names) w.code.code (length w.code.code) 0) (form_code pool own names o w.name w.code form w.before)).0 in
       let new = woven_code_fits w.name w.code w.bytes code plain w.woven in
       let attributes : Bool = counted_fits attribute_fits (with_code w.name (coded w.code.max_stack w.code.max_locals w.bytes w.code)) in
       ap member_fits w.after

@@ -24,6 +24,6 @@ with_calls a c methods = record {
 }
 
 -- The class is woven where some method has advised calls; else it is as it was.
-pub data IsWeaving (a : FirstAspect) (old new : ClassFile) : Type 0 where
-  Woven : (calls : Any (HasCalls (marks_of old.pool a) true) old.methods) (woven : IsWovenClass a old new) → IsWeaving a old new
-  Kept : (same : new ≡ old) (unadvised : IsUnadvised a old) → IsWeaving a old new
+pub data IsClassWeaving (a : FirstAspect) (old new : ClassFile) : Type 0 where
+  Woven : (calls : Any (HasCalls (marks_of old.pool a) true) old.methods) (woven : IsWovenClass a old new) → IsClassWeaving a old new
+  Kept : (same : new ≡ old) (unadvised : IsUnadvised a old) → IsClassWeaving a old new

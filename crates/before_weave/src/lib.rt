@@ -1,4 +1,4 @@
-//! Weaving one before advice into the calls of a class: a call of the advice's method is put before
+//! Weaving one before advice into the calls of classes: a call of the advice's method is put before
 //! each call that the pointcut matches.
 #![tactic(auto)]
 
@@ -10,7 +10,7 @@ mod methods;
 mod weave;
 
 pub use advice::aspect_class;
-pub use weave::weave_calls;
+pub use weave::weave_classes;
 
 #[cfg(test)]
 mod tests;

@@ -1,12 +1,14 @@
 ghost use Rattle.std.specs.Prelude.{◌≡◌, IfOk, codes};
+ghost use Rattle.before_weave.specs.Example.{itself_pool, itself_method, calling_itself};
 
 use super::*;
 use crate::code::weave_code;
-use crate::entries::utf8;
+use crate::entries::{code_attribute, utf8};
 use crate::marks::marks_of;
 use aj_names::ByteString;
-use class_file::PoolEntry;
+use class_file::{AccessFlags, ClassFile, Member, PoolEntry};
 use jp_model::FirstAspect;
+use sqlite_items::Items;
 use std::alloc::{AllocError, Global};
 use std::test::*;
 
@@ -63,5 +65,74 @@ fn aspect_has_a_class(rt: HostRuntime) -> Result<(), AllocError> {
     let class = aspect_class(alloc, &aspect)?;
     assert_eq!(rt; class.pool.len(), 21);
     assert_eq!(rt; class.methods.len(), 1);
+    Ok(())
+}
+
+/// The pool of a class of this name whose method m calls itself.
+fn itself_pool(alloc: Global, name: &[u8]) -> Result<Vec<PoolEntry>, AllocError>
+    ensures { IfOk result (λ pool. pool.items ≡ itself_pool name.now) }
+{
+    let pool = vec![in alloc;
+        utf8(alloc, name)?,
+        PoolEntry::Class(1),
+        utf8(alloc, b"java/lang/Object")?,
+        PoolEntry::Class(3),
+        utf8(alloc, b"m")?,
+        utf8(alloc, b"()V")?,
+        utf8(alloc, b"Code")?,
+        PoolEntry::NameAndType(5, 6),
+        PoolEntry::Methodref(2, 8),
+    ]?;
+    Ok(pool)
+}
+
+/// The method m.
+fn itself_method(alloc: Global) -> Result<Member, AllocError>
+    ensures { IfOk result (λ method. method ≡ itself_method) }
+{
+    let code = Vec::from_slice(alloc, &[184, 0, 9, 177])?;
+    let attributes = code_attribute(alloc, 7, 0, 0, code)?;
+    Ok(Member {
+        flags: AccessFlags(8),
+        name: 5,
+        descriptor: 6,
+        attributes,
+    })
+}
+
+/// The class.
+fn calling_itself(alloc: Global, name: &[u8]) -> Result<ClassFile, AllocError>
+    ensures { IfOk result (λ class. class ≡ calling_itself name.now) }
+{
+    let pool = itself_pool(alloc, name)?;
+    let mut methods = Items::new(alloc);
+    methods.push(itself_method(alloc)?)?;
+    Ok(ClassFile {
+        minor: 0,
+        major: 46,
+        pool: Items::from_vec(pool),
+        flags: AccessFlags(32),
+        this_class: 2,
+        super_class: 4,
+        interfaces: Items::new(alloc),
+        fields: Items::new(alloc),
+        methods,
+        attributes: Items::new(alloc),
+    })
+}
+
+// The class C has an advised call, and D has none. The aspect's class stands behind them.
+#[test]
+fn classes_stand_in_order(rt: HostRuntime) -> Result<(), AllocError> {
+    let alloc = rt.alloc();
+    let aspect = on_calls(alloc)?;
+    let mut classes = Vec::new(alloc);
+    classes.push(calling_itself(alloc, b"C")?)?;
+    classes.push(calling_itself(alloc, b"D")?)?;
+    let written = weave_classes(alloc, classes, &aspect)?;
+    assert_eq!(rt; written.len(), 3);
+    assert_eq!(rt; written[0].pool.len(), 15);
+    assert_eq!(rt; written[1].pool.len(), 9);
+    assert_eq!(rt; written[2].pool.len(), 21);
     Ok(())
 }

@@ -1,13 +1,14 @@
-//! Weaving a class.
+//! Weaving classes.
 
-ghost use Rattle.std.specs.Prelude.{◌≡◌, ◌≢◌, ◌<◌, [], ◌∷◌, length, IfOk, IsTrue, Some};
+ghost use Rattle.std.specs.Prelude.{◌≡◌, ◌<◌, [], ◌∷◌, ◌++◌, length, map, IfOk, IsTrue, Some};
+ghost use Rattle.std.specs.List.{AllByRecursion, AllZip};
 ghost use Rattle.class_file.specs.FirstForm.{is_first_form};
 ghost use Rattle.class_file.specs.Pool.{this_name};
 ghost use Rattle.jp_model.specs.AspectText.{is_first_aspect, aspect_of};
-ghost use Rattle.jp_model.specs.Headline.{Behaves, KeepsUntouched, KeepsDeclared, IsWritten};
-ghost use Rattle.woven_calls.specs.Woven.{aspect_class};
-ghost use Rattle.before_weave.specs.Weaving.{with_calls, IsWeaving};
+ghost use Rattle.jp_model.specs.Headline.{AreApart, IsWeaving};
+ghost use Rattle.before_weave.specs.Weaving.{with_calls, IsClassWeaving};
 
+use crate::advice::aspect_class;
 use crate::entries::with_call_entries;
 use crate::marks::marks_of;
 use crate::methods::weave_methods;
@@ -15,7 +16,6 @@ use class_file::{ClassFile, Member};
 use jp_model::FirstAspect;
 use sqlite_items::Items;
 use std::alloc::{AllocError, Global};
-use woven_calls::{unadvised_behaves, woven_behaves};
 
 /// How many entries are put behind the pool for a call of the advice's method. The last one is the
 /// method's.
@@ -65,7 +65,7 @@ fn weave_class(
     aspect: &FirstAspect,
 ) -> Result<ClassFile, AllocError>
     requires { IsTrue (is_first_form class) }
-    ensures { IfOk result (λ w. IsWeaving aspect.now class w) }
+    ensures { IfOk result (λ w. IsClassWeaving aspect.now class w) }
 {
     let marks = marks_of(alloc, class.pool.as_slice(), aspect)?;
     let index = class.pool.len() as u16 + CALL_ENTRIES;
@@ -77,26 +77,38 @@ fn weave_class(
     }
 }
 
-/// Weaves an aspect into a class: a call of the advice stands before each call that the pointcut
+/// Each class with calls of the advice put in, in order.
+fn weave_each(
+    alloc: Global,
+    classes: Vec<ClassFile>,
+    aspect: &FirstAspect,
+) -> Result<Vec<ClassFile>, AllocError>
+    requires { AllByRecursion (λ c. IsTrue (is_first_form c)) classes.items }
+    ensures { IfOk result (λ woven. AllZip (IsClassWeaving aspect.now) classes.items woven.items) }
+{
+    let mut woven = Vec::with_capacity(alloc, classes.len())?;
+    for class in classes {
+        woven.push(weave_class(alloc, class, aspect)?)?;
+    }
+    Ok(woven)
+}
+
+/// Weaves an aspect into classes: a call of the advice stands before each call that the pointcut
 /// matches. A class without such a call is given back as it was.
 ///
-/// The class and the aspect's class then run as the class does under the aspect.
-pub fn weave_calls(
+/// The woven classes come in order, and behind them the aspect's class. They run as the classes do
+/// under the aspect.
+pub fn weave_classes(
     alloc: Global,
-    class: ClassFile,
+    classes: Vec<ClassFile>,
     aspect: &FirstAspect,
-) -> Result<ClassFile, AllocError>
-    requires class_form { IsTrue (is_first_form class) }
+) -> Result<Vec<ClassFile>, AllocError>
+    requires class_forms { AllByRecursion (λ c. IsTrue (is_first_form c)) classes.items }
     requires aspect_form { IsTrue (is_first_aspect aspect.now) }
-    requires other_name { this_name class ≢ Some aspect.now.name }
-    ensures behaves { IfOk result (λ w. Behaves (class ∷ []) (aspect_of aspect.now ∷ []) (w ∷ aspect_class aspect.now ∷ [])) }
-    ensures untouched { IfOk result (λ w. KeepsUntouched (aspect_of aspect.now ∷ []) class w) }
-    ensures declared { IfOk result (λ w. KeepsDeclared class w) }
-    ensures named { IfOk result (λ w. this_name w ≡ this_name class) }
-    ensures written { IfOk result (λ w. IsWritten w) }
+    requires names { AreApart (map this_name classes.items ++ Some aspect.now.name ∷ []) }
+    ensures weaving { IfOk result (λ w. IsWeaving classes.items (aspect_of aspect.now ∷ []) w.items) }
 {
-    woven_behaves();
-    unadvised_behaves();
-    let woven = weave_class(alloc, class, aspect)?;
-    Ok(woven)
+    let mut written = weave_each(alloc, classes, aspect)?;
+    written.push(aspect_class(alloc, aspect)?)?;
+    Ok(written)
 }

@@ -21,7 +21,7 @@ pub use pool::PoolEntry;
 pub use sound::{entries_are_sound, entry_is_sound};
 pub use text::{
     is_class_name, is_field_descriptor, is_internal_name, is_member_name, is_method_descriptor,
-    is_utf8,
+    is_method_descriptor_with, is_utf8,
 };
 pub use types::{
     Attribute, ClassFile, CodeAttr, CodeAttribute, CodeContent, Content, ExceptionEntry,

@@ -1,10 +1,10 @@
 //! Texts of modified UTF-8, names and descriptors.
 
-ghost use Rattle.std.specs.Prelude.{◌≡◌, ◌==◌, ◌<◌, ◌≤◌, length, true, position, IfSome, IfOk};
+ghost use Rattle.std.specs.Prelude.{◌≡◌, ◌==◌, ◌<◌, ◌≤◌, if◌then◌else◌, length, true, position, IfSome, IfOk};
 ghost use Rattle.std.specs.Option.{option_map};
 ghost use Rattle.std.specs.Result.{result_map_both};
 ghost use Rattle.std.specs.List.{list_all};
-ghost use Rattle.class_file.specs.Text.{expected_after, is_utf8, pairing_after, is_paired, is_name_byte, is_not_slash, is_name_text, has_parts, is_class_name, is_member_name, class_type, base_type, dimensions, parameter, with_dimensions, field_type, is_field_descriptor, is_array_descriptor, is_result, parameters, is_method_descriptor, is_internal_name};
+ghost use Rattle.class_file.specs.Text.{expected_after, is_utf8, pairing_after, is_paired, is_name_byte, is_not_slash, is_name_text, has_parts, is_class_name, is_member_name, class_type, base_type, dimensions, parameter, with_dimensions, field_type, is_field_descriptor, is_array_descriptor, is_result, parameters, is_method_descriptor, is_method_descriptor_with, is_internal_name};
 
 /// Which bytes may come next in a text of modified UTF-8 (JVMS 4.4.7).
 #[derive(Clone, Copy, Debug, PartialEq, Eq)]
@@ -246,11 +246,12 @@ fn parameter(slots: u16, bytes: &[u8]) -> Result<(u16, &[u8]), bool>
     }
 }
 
-fn parameters(bytes: &[u8]) -> bool
-    ensures { result ≡ parameters (length bytes.now) 0 bytes.now }
+fn parameters(before: u16, bytes: &[u8]) -> bool
+    requires { before ≤ 255 }
+    ensures { result ≡ parameters (length bytes.now) before bytes.now }
 {
     let mut rest = bytes;
-    let mut slots = 0u16;
+    let mut slots = before;
     for _ in 0..bytes.len() {
         match parameter(slots, rest) {
             Err(answer) => return answer,
@@ -264,14 +265,23 @@ fn parameters(bytes: &[u8]) -> bool
 }
 
 /// Whether the bytes are the descriptor of a method (JVMS 4.3.3), whose parameters take at most 255
+/// slots, with one for the receiver where there is one.
+pub fn is_method_descriptor_with(bytes: &[u8], receiver: bool) -> bool
+    ensures { result ≡ is_method_descriptor_with (if receiver then 1 else 0) bytes.now }
+{
+    let before = if receiver { 1 } else { 0 };
+    match bytes {
+        [b'(', rest @ ..] => parameters(before, rest),
+        _ => false,
+    }
+}
+
+/// Whether the bytes are the descriptor of a method (JVMS 4.3.3), whose parameters take at most 255
 /// slots.
 pub fn is_method_descriptor(bytes: &[u8]) -> bool
     ensures { result ≡ is_method_descriptor bytes.now }
 {
-    match bytes {
-        [b'(', rest @ ..] => parameters(rest),
-        _ => false,
-    }
+    is_method_descriptor_with(bytes, false)
 }
 
 /// Whether the bytes are the name of a class or an array descriptor, as a Class entry names it

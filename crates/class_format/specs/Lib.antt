@@ -1,2 +1,17 @@
+pub mod Gives
+pub mod Readers
+pub mod Roles
+pub mod Kinds
+pub mod PoolReading
+pub mod PartReading
 pub mod Reading
 pub mod Writing
+pub mod LawsCodec
+pub mod LawsParts
+pub mod LawsLists
+pub mod LawsEntries
+pub mod LawsPool
+pub mod LawsCode
+pub mod LawsAttributes
+pub mod LawsMembers
+pub mod LawsReading

@@ -2,8 +2,17 @@
 //! edition, chapter 4, with the changes of Java 5).
 #![tactic(auto)]
 
+mod attributes;
+mod code;
 mod fault;
+mod kinds;
+mod known;
+mod members;
+mod numbers;
+mod pool;
 mod reading;
+mod scope;
+mod tables;
 mod writing;
 
 pub use class_file::{
@@ -13,3 +22,6 @@ pub use class_file::{
 pub use fault::ClassFault;
 pub use reading::read_class;
 pub use writing::write_class;
+
+#[cfg(test)]
+mod tests;

@@ -1,17 +1,18 @@
 //! Writing a class file.
 
-ghost use Rattle.std.specs.Prelude.{◌≡◌, ◌+◌, ◌<◌, ◌^◌, ◌++◌, length, List, ℕ, IfOk, OnOk, IsTrue, ◌∷◌};
+ghost use Rattle.std.specs.Prelude.{◌≡◌, ◌+◌, ◌<◌, ◌^◌, ◌++◌, length, List, ℕ, IfOk, OnOk, IsTrue, Ok, ◌∷◌};
 ghost use Rattle.std.specs.List.{flat_map, list_all};
 ghost use Rattle.std.specs.Int.{w16, to_be_bytes};
 ghost use Rattle.class_file.specs.Spelling.{u2, u4, u8, counted, named, spelled_entry, spelled_pool, spelled_exception, spelled_inner, spelled_line, spelled_variable, spelled_code_content, spelled_code_attribute, spelled_code, spelled_content, spelled_attribute, spelled_member, spelling};
+ghost use Rattle.class_file.specs.WellFormed.{is_well_formed};
+ghost use Rattle.class_format.specs.Reading.{reading};
 ghost use Rattle.class_format.specs.Writing.{spelled_head, spelled_body, body_fits};
 ghost use Rattle.class_file.specs.Range.{is_writable, entry_fits, pool_fits, counted_fits, line_fits, variable_fits, exception_fits, inner_fits, is_u2, is_u4, code_content_fits, code_attribute_fits, code_fits, content_fits, attribute_fits, member_fits};
 
 use class_file::{
     Attribute, ClassFile, CodeAttr, CodeAttribute, CodeContent, Content, ExceptionEntry,
-    InnerClass, LineRow, Member, VariableRow,
+    InnerClass, LineRow, Member, PoolEntry, VariableRow,
 };
-use class_file::PoolEntry;
 use std::alloc::{AllocError, Global};
 
 /// The bytes that a class file begins with.
@@ -415,7 +416,9 @@ fn put_body(alloc: Global, out: &mut Vec<u8>, class: &ClassFile) -> Result<(), A
 /// The bytes that spell the class (JVMS 4.1).
 pub fn write_class(alloc: Global, class: &ClassFile) -> Result<Vec<u8>, AllocError>
     requires { IsTrue (is_writable class.now) }
-    ensures { IfOk result (λ v. v.items ≡ spelling class.now) }
+    ensures spelled { IfOk result (λ v. v.items ≡ spelling class.now) }
+    // A well-formed class is read again from what is written.
+    ensures back { IsTrue (is_well_formed class.now) → IfOk result (λ v. reading v.items ≡ Ok class.now) }
 {
     let mut out = Vec::new(alloc);
     put_head(&mut out, class)?;

@@ -1,5 +1,5 @@
 -- The worked example, woven by hand: what its run shows, and that the laws speak of it.
-use Rattle.std.proofs.Common.{◌≡◌, ◌≢◌, ℕ, List, [], ◌∷◌, ◌++◌, Some, None, refl, sym, ap, arith, true≢false}
+use Rattle.std.proofs.Common.{◌≡◌, ℕ, List, [], ◌∷◌, ◌++◌, Some, None, refl, sym, ap, arith, true≢false}
 use Rattle.event_machine.specs.Observation.{Observation, observed}
 use Rattle.opcode_table.specs.declared.insn.Insn.TheVariants as insn
 use Rattle.opcode_table.specs.Decoding.{decoded}
@@ -12,9 +12,9 @@ use Rattle.jp_model.specs.Events.{Event, Print, Ending, Returned}
 use Rattle.jp_model.specs.Classes.{Method, is_named, method_named, entry_of, class_step, class_start}
 use Rattle.jp_model.specs.AspectText.{aspect_of}
 use Rattle.jp_model.specs.JoinPointMachine.{aspect_step, aspect_start}
-use Rattle.jp_model.specs.Headline.{Behaves}
+use Rattle.jp_model.specs.Headline.{AreApart, Behaves}
 use Rattle.jp_model.specs.Example.{example_pool, example_code, example_method, printing_code, main_code, example_class, main_reference, main_method, example_aspect}
-use Rattle.woven_calls.specs.Woven.{IsWovenCode, call_entries, call_index, IsWovenClass, aspect_class}
+use Rattle.woven_calls.specs.Woven.{IsWovenCode, call_entries, call_index, IsWovenClass, Woven, aspect_class}
 use Rattle.woven_calls.specs.Laws.{woven_behaves}
 
 -- invokestatic T.ajc$before$1, invokestatic C.m, return
@@ -93,10 +93,10 @@ is_woven = record {
   after = refl;
 }
 
-apart : this_name example_class ≢ Some example_aspect.name
-apart same = true≢false (sym (ap (is_named example_aspect.name) same))
+apart : AreApart (this_name example_class ∷ Some example_aspect.name ∷ [])
+apart = (((λ same. true≢false (sym (ap (is_named example_aspect.name) same))), tt), (tt, tt))
 
 -- the law speaks of it
 example_behaves : Behaves (example_class ∷ []) (aspect_of example_aspect ∷ []) written
 unfolding decoded opcode
-example_behaves = woven_behaves example_class woven_class example_aspect refl refl apart is_woven
+example_behaves = woven_behaves (example_class ∷ []) (woven_class ∷ []) example_aspect (refl, tt) refl apart (Woven is_woven, tt)

@@ -106,6 +106,11 @@ pub record IsUnadvisedMethod (pool : List PoolEntry) (a : FirstAspect) (m : Memb
 abbrev pub IsUnadvised : FirstAspect → ClassFile → Type 0
 IsUnadvised a c = AllByRecursion (IsUnadvisedMethod c.pool a) c.methods
 
+-- A class is woven, or it is as it was, where the advice applies nowhere in it.
+pub data IsWovenOrKept (a : FirstAspect) (old new : ClassFile) : Type 0 where
+  Woven : (woven : IsWovenClass a old new) → IsWovenOrKept a old new
+  Kept : (same : new ≡ old) (unadvised : IsUnadvised a old) → IsWovenOrKept a old new
+
 -- ---- the aspect's class
 
 abbrev pub aspect_pool : FirstAspect → List PoolEntry

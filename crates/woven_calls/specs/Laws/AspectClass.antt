@@ -1,6 +1,6 @@
 -- What the class of the aspect does: its method prints the text and returns.
-use Rattle.std.proofs.Common.{◌≡◌, ◌≢◌, ℕ, ◌+◌, Bool, true, false, nat_lt, nat_le, IsTrue, bytes_eq, List, [], ◌∷◌, Option, Some, None, refl, sym, ap, ◌∙◌, option_and_then, arith, if◌then◌else◌}
-use Rattle.std.specs.List.{list_all}
+use Rattle.std.proofs.Common.{◌≡◌, ◌≢◌, ℕ, ◌+◌, Bool, true, false, nat_lt, nat_le, IsTrue, bytes_eq, List, [], ◌∷◌, ◌++◌, Option, Some, None, refl, sym, ap, ◌∙◌, option_and_then, arith, if◌then◌else◌}
+use Rattle.std.specs.List.{list_all, AllByRecursion}
 use Rattle.std.proofs.lemmas.Bool.{and_parts, cond-true, false_from_ne_true, ltb-true, lt-ltb}
 use Rattle.std.proofs.lemmas.Slice.Eq.{bytes_eq-Decides}
 use Rattle.opcode_table.specs.Decoding.{decoded}
@@ -57,16 +57,22 @@ advice_attr = record { max_stack = 2; max_locals = 0; code = advice_code; entrie
 abbrev pub the_advice : FirstAspect → Method
 the_advice a = record { pool = aspect_pool a; code = advice_attr }
 
-module _ (w : ClassFile) (a : FirstAspect) (apart : this_name w ≢ Some a.name) where
-  abbrev classes : List ClassFile
-  classes = w ∷ aspect_class a ∷ []
+-- no class has the name
+abbrev pub NoneNamed : List ℕ → List ClassFile → Type 0
+NoneNamed name classes = AllByRecursion (λ c. this_name c ≢ Some name) classes
 
-  -- the search goes past the first class
-  pub past : (name : List ℕ) → this_name w ≢ Some name → class_named classes name ≡ class_named (aspect_class a ∷ []) name
-  past name other = ap (λ (b : Bool). if b then Some w else class_named (aspect_class a ∷ []) name) (not_named name (this_name w) other)
+-- the search goes past classes of other names
+pub past : (front rest : List ClassFile) (name : List ℕ) → NoneNamed name front → class_named (front ++ rest) name ≡ class_named rest name
+past [] rest name others = refl
+past (c ∷ front) rest name others =
+    ap (λ (b : Bool). if b then Some c else class_named (front ++ rest) name) (not_named name (this_name c) others.0) ∙ past front rest name others.1
+
+module _ (woven : List ClassFile) (a : FirstAspect) (apart : NoneNamed a.name woven) where
+  abbrev classes : List ClassFile
+  classes = woven ++ aspect_class a ∷ []
 
   aspect_named : class_named classes a.name ≡ Some (aspect_class a)
-  aspect_named = past a.name apart ∙ ap (λ (b : Bool). if b then Some (aspect_class a) else None) (own_named a.name)
+  aspect_named = past woven (aspect_class a ∷ []) a.name apart ∙ ap (λ (b : Bool). if b then Some (aspect_class a) else None) (own_named a.name)
 
   advice_declared : declared_in (aspect_class a) (advice_reference a).member ≡ Some (the_advice a)
   advice_declared = refl
@@ -75,9 +81,10 @@ module _ (w : ClassFile) (a : FirstAspect) (apart : this_name w ≢ Some a.name)
   advice_found = ap (option_and_then (λ (c : ClassFile). declared_in c (advice_reference a).member)) aspect_named ∙ advice_declared
 
   -- no class has this name, and no method of it
-  pub not_found : (r : Reference) → this_name w ≢ Some r.class → a.name ≢ r.class → method_named classes r ≡ None
-  not_found r other another =
-      ap (option_and_then (λ (c : ClassFile). declared_in c r.member)) (past r.class other ∙ ap (λ (b : Bool). if b then Some (aspect_class a) else None) (not_named r.class (Some a.name) (λ same. another cc)))
+  not_found : (r : Reference) → NoneNamed r.class woven → a.name ≢ r.class → method_named classes r ≡ None
+  not_found r others another =
+      ap (option_and_then (λ (c : ClassFile). declared_in c r.member))
+      (past woven (aspect_class a ∷ []) r.class others ∙ ap (λ (b : Bool). if b then Some (aspect_class a) else None) (not_named r.class (Some a.name) (λ same. another cc)))
 
   abbrev at_pc : ℕ → Place
   at_pc pc = record { method = advice_reference a; pc = pc }
@@ -116,8 +123,8 @@ module _ (w : ClassFile) (a : FirstAspect) (apart : this_name w ≢ Some a.name)
   unfolding decoded opcode
   next_5 = next_of 5 3 refl
 
-  pub prints : (At : Place → Place → Type 0) (old : Code Place) → IsTrue (is_printable_text a.text) → IsTrue (is_identifier a.name) → this_name w ≢ Some print_stream_class → Prints At old (class_code classes) (advice_reference a) a.text
-  prints At old printable identifier other =
+  pub prints : (At : Place → Place → Type 0) (old : Code Place) → IsTrue (is_printable_text a.text) → IsTrue (is_identifier a.name) → NoneNamed print_stream_class woven → Prints At old (class_code classes) (advice_reference a) a.text
+  prints At old printable identifier others =
       let next = (class_code classes).next in
       let line = (class_code classes).line in
       let second : next (next (at_pc 0)) ≡ at_pc 5 = ap next next_0 ∙ next_3 in
@@ -129,5 +136,5 @@ module _ (w : ClassFile) (a : FirstAspect) (apart : this_name w ≢ Some a.name)
         constant = ap line next_0 ∙ line_of 3 ∙ line_3 ∙ ap (λ t. Some (Constant (Pointer (Literal t)))) (units_same a.text printable);
         print = ap line second ∙ line_of 5 ∙ line_5;
         back = ap line third ∙ line_of 8 ∙ line_8;
-        library = ap (found println) (not_found println other (no_identifier a.name identifier));
+        library = ap (found println) (not_found println others (no_identifier a.name identifier));
       }

@@ -125,7 +125,7 @@ pub drop_behind : (code : List ℕ) (pc : ℕ) (front rest : List ℕ) → drop 
 drop_behind code pc front rest e =
     sym (drop-drop (length front) pc code) ∙ ap (drop (length front)) e ∙ drop_at front rest (length front) refl
 
-ended_not : (code : List ℕ) (pc : ℕ) (i : Insn) (n : ℕ) → (pc == length code) ≡ true → decoded code pc ≡ Ok (i, n) → ⊥
+pub ended_not : (code : List ℕ) (pc : ℕ) (i : Insn) (n : ℕ) → (pc == length code) ≡ true → decoded code pc ≡ Ok (i, n) → ⊥
 ended_not code pc i n ended found =
     let at : pc ≡ length code = eqb-true pc (length code) ended in
     let end = decoded_end code pc (drop_all pc code (omega arith)) in

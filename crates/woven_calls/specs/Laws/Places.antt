@@ -1,4 +1,4 @@
--- Where the instructions of a class stand in the written class, and that the written classes carry out the advice.
+-- Where the instructions of the classes stand in the written classes, and that the written classes carry out the advice.
 use Rattle.std.proofs.Common.{◌≡◌, ◌≢◌, ℕ, ◌+◌, Bool, true, false, cond, List, [], ◌∷◌, ◌++◌, length, drop, flat_map, Option, Some, None, Ok, refl, sym, ap, ◌∙◌, subst, subst₂, append_assoc, option_and_then}
 use Rattle.std.specs.List.{AllByRecursion}
 use Rattle.std.proofs.lemmas.Option.{same_Some}
@@ -17,7 +17,6 @@ use Rattle.jp_model.specs.Machine.{Code}
 use Rattle.jp_model.specs.Aspects.{PrintLine, Advice, Aspect}
 use Rattle.jp_model.specs.JoinPoints.{matches, call_at, chain_for, chain_of}
 use Rattle.jp_model.specs.Classes.{Place, Method, operation, operation_of, length_of, length_at, line_at, method_named, class_code}
-use Rattle.woven_calls.specs.Woven.{aspect_class}
 use Rattle.woven_calls.specs.Laws.Carries.{SameFound, CallsSame, IsKept, IsAdvised, Prints, Carries}
 use Rattle.woven_calls.specs.Laws.AspectClass.{advice_reference}
 use Rattle.woven_calls.specs.Laws.Forms.{CallsKnown, HasMeaning, decoded_end, drop_behind}
@@ -68,13 +67,7 @@ next_where classes p m i n found here =
     ap (λ (o : Option Method). let q : Place = record { method = p.method; pc = p.pc + length_at p.pc o } in q) found
     ∙ ap (λ (d : Decoded). let q : Place = record { method = p.method; pc = p.pc + length_of d } in q) here
 
-module _ (a : FirstAspect) (own : List ℕ) (c w : ClassFile) where
-  abbrev before : List ClassFile
-  before = c ∷ []
-
-  abbrev after : List ClassFile
-  after = w ∷ aspect_class a ∷ []
-
+module _ (a : FirstAspect) (before after : List ClassFile) where
   abbrev old : Code Place
   old = class_code before
 
@@ -90,6 +83,8 @@ module _ (a : FirstAspect) (own : List ℕ) (c w : ClassFile) where
     pub m' : Method
     pub found : method_named before p.method ≡ Some m
     pub found' : method_named after q.method ≡ Some m'
+    pub own : List ℕ
+    pub apart : own ≢ a.name
     pub bytes : Insn → List ℕ
     pub rest : List Insn
     pub carried : AllByRecursion (IsCarried a own m.pool m'.pool bytes) rest
@@ -102,6 +97,8 @@ module _ (a : FirstAspect) (own : List ℕ) (c w : ClassFile) where
     m' : Method
     found : method_named before p.method ≡ Some m
     found' : method_named after q.method ≡ Some m'
+    own : List ℕ
+    apart : own ≢ a.name
     bytes : Insn → List ℕ
     i : Insn
     rest : List Insn
@@ -114,7 +111,7 @@ module _ (a : FirstAspect) (own : List ℕ) (c w : ClassFile) where
   begins : (p q : Place) (op : Operation) → At p q → old.line p ≡ Some op → Begins p q op
   begins p q op at e = go at.rest at.carried at.stands at.stands'
     where
-      go : (rest : List Insn) → AllByRecursion (IsCarried a own at.m.pool at.m'.pool at.bytes) rest → drop p.pc at.m.code.code ≡ flat_map spelling rest → drop q.pc at.m'.code.code ≡ flat_map at.bytes rest → Begins p q op
+      go : (rest : List Insn) → AllByRecursion (IsCarried a at.own at.m.pool at.m'.pool at.bytes) rest → drop p.pc at.m.code.code ≡ flat_map spelling rest → drop q.pc at.m'.code.code ≡ flat_map at.bytes rest → Begins p q op
       go [] carried stands stands' =
           let none : old.line p ≡ None = ap (option_and_then (line_at p.pc)) at.found ∙ ap (operation_of at.m.pool) (decoded_end at.m.code.code p.pc stands) in
           let apart = sym none ∙ e in absurd cc
@@ -123,6 +120,8 @@ module _ (a : FirstAspect) (own : List ℕ) (c w : ClassFile) where
         m' = at.m';
         found = at.found;
         found' = at.found';
+        own = at.own;
+        apart = at.apart;
         bytes = at.bytes;
         i = i;
         rest = rest;
@@ -144,8 +143,8 @@ module _ (a : FirstAspect) (own : List ℕ) (c w : ClassFile) where
     same_op : operation x.m'.pool x.i ≡ Some op
     same_op = let same = sym x.here.meaning.before ∙ x.means in x.here.meaning.after ∙ same
 
-    calls_known : CallsKnown own op
-    calls_known = subst (CallsKnown own) (same_Some x.here.meaning.op op (sym x.here.meaning.before ∙ x.means)) x.here.meaning.calls
+    calls_known : CallsKnown x.own op
+    calls_known = subst (CallsKnown x.own) (same_Some x.here.meaning.op op (sym x.here.meaning.before ∙ x.means)) x.here.meaning.calls
 
     -- the instruction at a place of the new code, and the one behind it
     module _ (q' : Place) (same : q'.method ≡ q.method) (stands : drop q'.pc x.m'.code.code ≡ spelling x.i ++ flat_map x.bytes x.rest) where
@@ -164,6 +163,8 @@ module _ (a : FirstAspect) (own : List ℕ) (c w : ClassFile) where
         m' = x.m';
         found = x.found;
         found' = found_here;
+        own = x.own;
+        apart = x.apart;
         bytes = x.bytes;
         rest = x.rest;
         carried = x.carried;
@@ -203,18 +204,18 @@ module _ (a : FirstAspect) (own : List ℕ) (c w : ClassFile) where
         }
 
   -- what is called is found in both
-  module _ (looks : (r : Reference) → r.class ≢ a.name → SameFound At (old.method r) (new.method r)) (apart : own ≢ a.name) (other : print_stream_class ≢ a.name) where
-    calls_same : (op : Operation) → CallsKnown own op → CallsSame At old new op
-    calls_same DoNothing known = tt
-    calls_same (Constant held) known = tt
-    calls_same (GetStatic field) known = tt
-    calls_same (InvokeStatic r) known = looks r (λ same. apart (sym known ∙ same))
-    calls_same (InvokeVirtual r) known = looks r (λ same. other (ap (λ (r : Reference). r.class) (sym known) ∙ same))
-    calls_same Return known = tt
+  module _ (looks : (r : Reference) → r.class ≢ a.name → SameFound At (old.method r) (new.method r)) (other : print_stream_class ≢ a.name) where
+    calls_same : (own : List ℕ) → own ≢ a.name → (op : Operation) → CallsKnown own op → CallsSame At old new op
+    calls_same own apart DoNothing known = tt
+    calls_same own apart (Constant held) known = tt
+    calls_same own apart (GetStatic field) known = tt
+    calls_same own apart (InvokeStatic r) known = looks r (λ same. apart (sym known ∙ same))
+    calls_same own apart (InvokeVirtual r) known = looks r (λ same. other (ap (λ (r : Reference). r.class) (sym known) ∙ same))
+    calls_same own apart Return known = tt
 
     pub carries : Prints At old new (advice_reference a) a.text → Carries At old new aspects (advice_reference a) a.text
     carries prints = record {
-      calls = λ p q op at e. calls_same op (calls_known p q op (begins p q op at e));
+      calls = λ p q op at e. let x = begins p q op at e in calls_same x.own x.apart op (calls_known p q op x);
       kept = λ p q op at e none. kept p q op (begins p q op at e) none;
       advised = λ p q op b rest at e some. advised p q op (begins p q op at e) b rest some;
       prints = prints;

@@ -1,5 +1,8 @@
 -- A pool that begins with another: what the indices of the shorter one stand for stays.
-use Rattle.std.proofs.Common.{◌≡◌, ℕ, zero, suc, ◌+◌, List, [], ◌∷◌, ◌++◌, length, Option, Some, None, refl, ap, ◌∙◌, arith, slice_get, option_and_then, codes}
+use Rattle.std.proofs.Common.{◌≡◌, ℕ, zero, suc, ◌+◌, ◌<◌, List, [], ◌∷◌, ◌++◌, length, Option, Some, None, refl, ap, ◌∙◌, arith, slice_get, option_and_then, codes}
+use Rattle.opcode_table.specs.declared.insn.Insn.TheVariants as insn
+use Rattle.opcode_table.specs.Table.{opcode}
+use Rattle.opcode_table.specs.Spelling.{IsInsn}
 use Rattle.class_file.specs.declared.pool.PoolEntry.{PoolEntry}
 use Rattle.class_file.specs.declared.pool.PoolEntry.TheVariants as entry
 use Rattle.class_file.specs.declared.types.Member.{Member}
@@ -112,21 +115,32 @@ module _ (pool : List PoolEntry) (a : FirstAspect) where
   abbrev longer : List PoolEntry
   longer = pool ++ call_entries pool a
 
-  slot : (k index : ℕ) → index ≡ suc (length pool + k) → entry_at longer index ≡ slice_get (call_entries pool a) k
+  pub slot : (k index : ℕ) → index ≡ suc (length pool + k) → entry_at longer index ≡ slice_get (call_entries pool a) k
   slot k index e = ap (entry_at longer) e ∙ slice_back pool (call_entries pool a) k
 
-  text_slot : (k index : ℕ) (t : List ℕ) → index ≡ suc (length pool + k) → slice_get (call_entries pool a) k ≡ Some (entry.Utf8 t) → text_at longer index ≡ Some t
+  pub text_slot : (k index : ℕ) (t : List ℕ) → index ≡ suc (length pool + k) → slice_get (call_entries pool a) k ≡ Some (entry.Utf8 t) → text_at longer index ≡ Some t
   text_slot k index t e is = ap (option_and_then as_text) (slot k index e ∙ is)
+
+  pub call_class : class_at longer (length pool + 1 + 1) ≡ Some a.name
+  call_class =
+      let n = length pool in
+      ap (option_and_then (as_class longer)) (slot 1 (n + 1 + 1) (omega arith)) ∙ text_slot 0 (n + 1) a.name (omega arith) refl
+
+  pub call_type : named_type_at longer (length pool + 1 + 4) ≡ Some (named_type advice_name (codes "()V"))
+  call_type =
+      let n = length pool in
+      ap (option_and_then (as_named_type longer)) (slot 4 (n + 1 + 4) (omega arith))
+      ∙ ap (option_and_then (λ n'. option_and_then (λ d. Some (named_type n' d)) (text_at longer (n + 1 + 3)))) (text_slot 2 (n + 1 + 2) advice_name (omega arith) refl)
+      ∙ ap (option_and_then (λ d. Some (named_type advice_name d))) (text_slot 3 (n + 1 + 3) (codes "()V") (omega arith) refl)
 
   pub call_names : method_at longer (call_index pool) ≡ Some (reference a.name advice_name (codes "()V"))
   call_names =
       let n = length pool in
-      let class : class_at longer (n + 1 + 1) ≡ Some a.name =
-      ap (option_and_then (as_class longer)) (slot 1 (n + 1 + 1) (omega arith)) ∙ text_slot 0 (n + 1) a.name (omega arith) refl in
-      let type : named_type_at longer (n + 1 + 4) ≡ Some (named_type advice_name (codes "()V")) =
-      ap (option_and_then (as_named_type longer)) (slot 4 (n + 1 + 4) (omega arith))
-      ∙ ap (option_and_then (λ n'. option_and_then (λ d. Some (named_type n' d)) (text_at longer (n + 1 + 3)))) (text_slot 2 (n + 1 + 2) advice_name (omega arith) refl)
-      ∙ ap (option_and_then (λ d. Some (named_type advice_name d))) (text_slot 3 (n + 1 + 3) (codes "()V") (omega arith) refl) in
       ap (option_and_then (as_method longer)) (slot 5 (call_index pool) (omega arith))
-      ∙ ap (option_and_then (λ (c : List ℕ). option_and_then (λ (m : NamedType). let r : Reference = record { class = c; member = m } in Some r) (named_type_at longer (n + 1 + 4)))) class
-      ∙ ap (option_and_then (λ (m : NamedType). let r : Reference = record { class = a.name; member = m } in Some r)) type
+      ∙ ap (option_and_then (λ (c : List ℕ). option_and_then (λ (m : NamedType). let r : Reference = record { class = c; member = m } in Some r) (named_type_at longer (n + 1 + 4)))) call_class
+      ∙ ap (option_and_then (λ (m : NamedType). let r : Reference = record { class = a.name; member = m } in Some r)) call_type
+
+-- the call is an instruction
+pub call_is_insn : (pool : List PoolEntry) → length pool < 10000 → IsInsn (insn.Pool 184 (call_index pool))
+unfolding opcode
+call_is_insn pool few = omega (arith, few)

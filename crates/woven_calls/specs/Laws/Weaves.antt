@@ -1,10 +1,9 @@
--- A woven class carries out the advice, and so does a class without a place for it as it was.
-use Rattle.std.proofs.Common.{◌≡◌, ◌≢◌, ℕ, ◌<◌, ◌==◌, Bool, true, false, not, ◌&&◌, nat_lt, nat_le, bytes_eq, IsTrue, List, [], ◌∷◌, ◌++◌, length, Option, Some, None, refl, sym, ap, ◌∙◌, subst, codes, option_and_then, arith}
+-- Woven classes carry out the advice, and so do classes without a place for it as they were.
+use Rattle.std.proofs.Common.{◌≡◌, ◌≢◌, ℕ, ◌<◌, true, false, not, ◌&&◌, nat_le, bytes_eq, IsTrue, List, [], ◌∷◌, ◌++◌, length, map, Some, refl, sym, ap, ◌∙◌, subst, codes, option_and_then}
 use Rattle.std.specs.List.{list_all, AllByRecursion, AllZip}
-use Rattle.std.proofs.lemmas.Bool.{and_parts, ltb-true}
+use Rattle.std.proofs.lemmas.Bool.{and_parts}
 use Rattle.opcode_table.specs.declared.insn.Insn.{Insn}
 use Rattle.opcode_table.specs.declared.insn.Insn.TheVariants as insn
-use Rattle.opcode_table.specs.Table.{opcode}
 use Rattle.opcode_table.specs.Spelling.{spelling, IsInsn, IsSingle}
 use Rattle.class_file.specs.declared.pool.PoolEntry.{PoolEntry}
 use Rattle.class_file.specs.declared.types.ClassFile.{ClassFile}
@@ -12,55 +11,25 @@ use Rattle.class_file.specs.declared.types.Member.{Member}
 use Rattle.class_file.specs.declared.types.Attribute.{Attribute}
 use Rattle.class_file.specs.declared.types.Content.TheVariants as content
 use Rattle.class_file.specs.declared.types.CodeAttr.{CodeAttr}
-use Rattle.class_file.specs.Sound.{is_some_that, pool_is_sound}
-use Rattle.class_file.specs.Range.{is_writable}
-use Rattle.class_file.specs.Pool.{NamedType, text_at, this_name, super_name, member_type}
-use Rattle.class_file.specs.FirstForm.{is_identifier, is_printable_text, is_form_insn, insns_pass, is_plain_code, has_form_code, is_text, is_form_attribute, is_single, has_form_flags, is_form_method, method_names, are_distinct, has_known_version, has_short_lists, has_form_names, has_form_methods, has_kept_attributes, own_name, object_class, no_arguments, is_first_form}
+use Rattle.class_file.specs.Sound.{is_some_that}
+use Rattle.class_file.specs.Pool.{NamedType, text_at, this_name, member_type}
+use Rattle.class_file.specs.FirstForm.{is_identifier, is_printable_text, is_form_insn, insns_pass, is_plain_code, has_form_code, is_text, is_form_attribute, is_single, has_form_flags, is_form_method, method_names, no_arguments, is_first_form}
+use Rattle.class_file.specs.FirstFormLaws.{first_form}
 use Rattle.jp_model.specs.declared.first_aspect.FirstAspect.{FirstAspect}
 use Rattle.jp_model.specs.AspectText.{aspect_of, is_short_identifier, is_unescaped, is_literal, is_first_aspect}
 use Rattle.jp_model.specs.Aspects.{Advice}
 use Rattle.jp_model.specs.JoinPoints.{chain_of}
 use Rattle.jp_model.specs.Classes.{named_type, when_no_parameters, operation}
-use Rattle.jp_model.specs.Headline.{Behaves}
-use Rattle.woven_calls.specs.Woven.{is_empty, unless, is_unadvised, woven_insn, IsWovenCode, call_entries, call_index, with_code, IsWovenMethod, IsWovenClass, IsUnadvisedCode, IsUnadvisedMethod, IsUnadvised, aspect_class}
-use Rattle.woven_calls.specs.Laws.Pools.{Extends, extends_append, extends_same, text_kept, class_kept, member_kept, call_names}
+use Rattle.jp_model.specs.Headline.{AreApart, Behaves}
+use Rattle.woven_calls.specs.Woven.{is_empty, unless, is_unadvised, woven_insn, IsWovenCode, call_entries, call_index, with_code, IsWovenMethod, IsWovenClass, IsUnadvisedCode, IsUnadvisedMethod, IsUnadvised, IsWovenOrKept, Woven, Kept, aspect_class}
+use Rattle.woven_calls.specs.Laws.Pools.{Extends, extends_append, extends_same, text_kept, class_kept, member_kept, call_names, call_is_insn}
+use Rattle.woven_calls.specs.Laws.Grows.{is_there}
 use Rattle.woven_calls.specs.Laws.Forms.{has_meaning, all_pass}
 use Rattle.woven_calls.specs.Laws.AspectClass.{advice_reference}
 use Rattle.woven_calls.specs.Laws.Places.{Written, IsCarried}
-use Rattle.woven_calls.specs.Laws.Lookups.{IsCarriedCode, IsCarriedMember, behaves}
+use Rattle.woven_calls.specs.Laws.Lookups.{IsCarriedCode, IsCarriedMember, IsCarriedClass, behaves}
 
 -- ---- what the form says
-
-is_there : {X : Type 0} (test : X → Bool) (o : Option X) → is_some_that test o ≡ true → (x : X) × (o ≡ Some x) × (test x ≡ true)
-is_there test None h = let apart : false ≡ true = h in absurd cc
-is_there test (Some x) h = (x, refl, h)
-
-record HasForm (c : ClassFile) : Type 0 where
-  own : List ℕ
-  named : this_name c ≡ Some own
-  identifier : is_identifier own ≡ true
-  short : length c.pool < 10000
-  methods : list_all (is_form_method c.pool own (method_names c)) c.methods ≡ true
-
-has_form : (c : ClassFile) → IsTrue (is_first_form c) → HasForm c
-has_form c h =
-    let p1 = and_parts (is_writable c) (has_known_version c && (has_short_lists c && (pool_is_sound c.pool && (has_form_names c && (has_form_methods c && has_kept_attributes c))))) h in
-    let p2 = and_parts (has_known_version c) (has_short_lists c && (pool_is_sound c.pool && (has_form_names c && (has_form_methods c && has_kept_attributes c)))) p1.1 in
-    let p3 = and_parts (has_short_lists c) (pool_is_sound c.pool && (has_form_names c && (has_form_methods c && has_kept_attributes c))) p2.1 in
-    let p4 = and_parts (pool_is_sound c.pool) (has_form_names c && (has_form_methods c && has_kept_attributes c)) p3.1 in
-    let p5 = and_parts (has_form_names c) (has_form_methods c && has_kept_attributes c) p4.1 in
-    let p6 = and_parts (has_form_methods c) (has_kept_attributes c) p5.1 in
-    let lists = and_parts (nat_lt (length c.pool) 10000) (length c.interfaces == 0 && (length c.fields == 0 && nat_le (length c.methods) 100)) p3.0 in
-    let names = and_parts (is_some_that is_identifier (this_name c)) (is_some_that (bytes_eq object_class) (super_name c)) p5.0 in
-    let name = is_there is_identifier (this_name c) names.0 in
-    let methods = and_parts (are_distinct (method_names c)) (list_all (is_form_method c.pool (own_name (this_name c)) (method_names c)) c.methods) p6.0 in
-    record {
-      own = name.0;
-      named = name.1;
-      identifier = name.2;
-      short = ltb-true (length c.pool) 10000 lists.0;
-      methods = subst (λ (o : Option (List ℕ)). list_all (is_form_method c.pool (own_name o) (method_names c)) c.methods ≡ true) name.1 methods.1;
-    }
 
 -- the aspect's name is an identifier, and its text printable
 aspect_form : (a : FirstAspect) → IsTrue (is_first_aspect a) → IsTrue (is_identifier a.name) × IsTrue (is_printable_text a.text)
@@ -117,15 +86,11 @@ module _ (a : FirstAspect) (own : List ℕ) (methods : List (List ℕ)) (pool : 
   abbrev longer : List PoolEntry
   longer = pool ++ call_entries pool a
 
-  call_fits : IsInsn (insn.Pool 184 (call_index pool))
-  unfolding opcode
-  call_fits = omega (arith, short)
-
   woven_as : (chain : List Advice) (i : Insn) → Written longer (advice_reference a) chain i (unless (is_empty chain) (spelling (insn.Pool 184 (call_index pool))) ++ spelling i)
   woven_as [] i = refl
   woven_as (b ∷ rest) i = record {
     call = insn.Pool 184 (call_index pool);
-    insn = call_fits;
+    insn = call_is_insn pool short;
     single = tt;
     means = ap (option_and_then when_no_parameters) (call_names pool a);
     spelled = refl;
@@ -173,20 +138,17 @@ module _ (a : FirstAspect) (own : List ℕ) (methods : List (List ℕ)) (pool : 
       let p = and_parts (is_form_method pool own methods m) (list_all (is_form_method pool own methods) ms) form in
       (woven_method m m' p.0 all.0, woven_methods ms ms' p.1 all.1)
 
-pub woven_behaves : (c w : ClassFile) (a : FirstAspect) → IsTrue (is_first_form c) → IsTrue (is_first_aspect a) → this_name c ≢ Some a.name → IsWovenClass a c w → Behaves (c ∷ []) (aspect_of a ∷ []) (w ∷ aspect_class a ∷ [])
-woven_behaves c w a form aspect apart x =
-    let f = has_form c form in
-    let b = aspect_form a aspect in
-    subst (λ (w : ClassFile). Behaves (c ∷ []) (aspect_of a ∷ []) (w ∷ aspect_class a ∷ [])) (sym x.after)
-    (behaves a f.own c _ (record {
+woven_class : (c w : ClassFile) (a : FirstAspect) → IsTrue (is_first_form c) → this_name c ≢ Some a.name → IsWovenClass a c w → IsCarriedClass a c w
+woven_class c w a form apart x =
+    let f = first_form c form in
+    subst (IsCarriedClass a c) (sym x.after) (record {
+      own = f.name;
       named = f.named;
-      named' = class_kept c.pool (c.pool ++ call_entries c.pool a) (extends_append c.pool (call_entries c.pool a)) c.this_class f.own f.named;
+      named' = class_kept c.pool (c.pool ++ call_entries c.pool a) (extends_append c.pool (call_entries c.pool a)) c.this_class f.name f.named;
       identifier = f.identifier;
       apart = λ same. apart (f.named ∙ ap Some same);
-      aspect = b.0;
-      printable = b.1;
-      members = woven_methods a f.own (method_names c) c.pool f.short c.methods x.methods f.methods x.each;
-    }))
+      members = woven_methods a f.name (method_names c) c.pool f.few c.methods x.methods f.methods x.each;
+    })
 
 -- ---- unadvised
 
@@ -234,16 +196,41 @@ module _ (a : FirstAspect) (own : List ℕ) (methods : List (List ℕ)) (pool : 
       let p = and_parts (is_form_method pool own methods m) (list_all (is_form_method pool own methods) ms) form in
       (unadvised_method m p.0 all.0, unadvised_methods ms p.1 all.1)
 
-pub unadvised_behaves : (c : ClassFile) (a : FirstAspect) → IsTrue (is_first_form c) → IsTrue (is_first_aspect a) → this_name c ≢ Some a.name → IsUnadvised a c → Behaves (c ∷ []) (aspect_of a ∷ []) (c ∷ aspect_class a ∷ [])
-unadvised_behaves c a form aspect apart x =
-    let f = has_form c form in
-    let b = aspect_form a aspect in
-    behaves a f.own c c (record {
+unadvised_class : (c : ClassFile) (a : FirstAspect) → IsTrue (is_first_form c) → this_name c ≢ Some a.name → IsUnadvised a c → IsCarriedClass a c c
+unadvised_class c a form apart x =
+    let f = first_form c form in
+    record {
+      own = f.name;
       named = f.named;
       named' = f.named;
       identifier = f.identifier;
       apart = λ same. apart (f.named ∙ ap Some same);
-      aspect = b.0;
-      printable = b.1;
-      members = unadvised_methods a f.own (method_names c) c.pool c.methods f.methods x;
-    })
+      members = unadvised_methods a f.name (method_names c) c.pool c.methods f.methods x;
+    }
+
+-- ---- all classes
+
+carried_class : (c w : ClassFile) (a : FirstAspect) → IsTrue (is_first_form c) → this_name c ≢ Some a.name → IsWovenOrKept a c w → IsCarriedClass a c w
+carried_class c w a form apart (Woven x) = woven_class c w a form apart x
+carried_class c w a form apart (Kept same x) = subst (IsCarriedClass a c) (sym same) (unadvised_class c a form apart x)
+
+-- the last of a list without two alike is unlike those before it
+apart_from_last : {X : Type 0} (last : X) (xs : List X) (x : X) → AllByRecursion (λ y. x ≢ y) (xs ++ last ∷ []) → x ≢ last
+apart_from_last last [] x all = all.0
+apart_from_last last (y ∷ xs) x all = apart_from_last last xs x all.1
+
+carried_classes : (a : FirstAspect) (classes written : List ClassFile) → AllByRecursion (λ c. IsTrue (is_first_form c)) classes → AreApart (map this_name classes ++ Some a.name ∷ []) → AllZip (IsWovenOrKept a) classes written → AllZip (IsCarriedClass a) classes written
+carried_classes a [] [] form apart all = tt
+carried_classes a [] (w ∷ written) form apart all = absurd all
+carried_classes a (c ∷ classes) [] form apart all = absurd all
+carried_classes a (c ∷ classes) (w ∷ written) form apart all = (
+  carried_class c w a form.0 (apart_from_last (Some a.name) (map this_name classes) (this_name c) apart.0) all.0,
+  carried_classes a classes written form.1 apart.1 all.1,
+)
+
+-- The woven classes and the aspect's class run as the join point machine does on the classes and the aspect.
+pub woven_behaves : (classes written : List ClassFile) (a : FirstAspect) → AllByRecursion (λ c. IsTrue (is_first_form c)) classes → IsTrue (is_first_aspect a) → AreApart (map this_name classes ++ Some a.name ∷ [])
+    → AllZip (IsWovenOrKept a) classes written → Behaves classes (aspect_of a ∷ []) (written ++ aspect_class a ∷ [])
+woven_behaves classes written a form aspect apart all =
+    let b = aspect_form a aspect in
+    behaves a b.0 b.1 classes written (carried_classes a classes written form apart all)
