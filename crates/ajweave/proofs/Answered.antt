@@ -2,7 +2,7 @@
 use Rattle.std.proofs.Common.{◌≡◌, ◌↔◌, ℕ, ◌<◌, ◌⊎◌, inl, inr, List, Option, Some, None, Err, refl, sym, subst, arith}
 use Rattle.aj_outside.specs.Counts.{Rose, ComesWithRise, last_count}
 use Rattle.aj_outside.specs.Files.{Files}
-use Rattle.ajweave.specs.declared.status.Refusal.TheVariants.{NotBuilt}
+use Rattle.ajweave.specs.declared.status.Refusal.{Refusal}
 use Rattle.ajweave.specs.declared.status.Status.{Status}
 use Rattle.ajweave.specs.declared.status.Status.TheVariants as status
 use Rattle.ajweave.specs.declared.stop.Stop.TheVariants as stop
@@ -19,8 +19,8 @@ pub record Answered (command : Option Folders) (held held_now : Option Files) (r
   pub declared : result ≡ status.Done → CommandedTo command held held_now WritesDeclared
   pub usage : command ≡ None → AnswersPrinted status.Usage result
   pub usage_only : result ≡ status.Usage → command ≡ None
-  pub refused : OnTold command held (λ folders files. (name : List ℕ) → IsRefused folders.input files name → AnswersRead (status.Refused (NotBuilt name)) result)
-  pub refused_only : (name : List ℕ) → result ≡ status.Refused (NotBuilt name) → Commanded command held (λ folders files. IsRefused folders.input files name)
+  pub refused : OnTold command held (λ folders files. (refusal : Refusal) → IsRefused folders.input files refusal → AnswersRead (status.Refused refusal) result)
+  pub refused_only : (refusal : Refusal) → result ≡ status.Refused refusal → Commanded command held (λ folders files. IsRefused folders.input files refusal)
   pub complete : OnTold command held (λ folders files. IsValid folders.input files → AnswersDone result)
   pub done_only : result ≡ status.Done → Commanded command held (λ folders files. IsValid folders.input files)
   pub shelf_kept : KeepsShelf result held held_now
@@ -67,7 +67,7 @@ usage_answered held result before now r =
       usage = λ d. usage_answers result before now r;
       usage_only = λ d. refl;
       refused = tt;
-      refused_only = λ name d. absurd (never.3 name d);
+      refused_only = λ refusal d. absurd (never.3 refusal d);
       complete = tt;
       done_only = λ d. absurd (never.0 d);
       shelf_kept = usage_kept held result before now r;

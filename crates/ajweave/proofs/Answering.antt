@@ -6,12 +6,12 @@ use Rattle.std.proofs.lemmas.List.{append-nil}
 use Rattle.aj_outside.specs.Files.{Files}
 use Rattle.class_file.specs.declared.types.ClassFile.{ClassFile}
 use Rattle.jp_model.specs.declared.first_aspect.FirstAspect.{FirstAspect}
-use Rattle.ajweave.specs.declared.status.Refusal.TheVariants.{NotBuilt}
+use Rattle.ajweave.specs.declared.status.Refusal.{Refusal}
 use Rattle.ajweave.specs.declared.status.Status.{Status}
 use Rattle.ajweave.specs.declared.status.Status.TheVariants as status
 use Rattle.ajweave.specs.declared.stop.Stop.{Stop}
 use Rattle.ajweave.specs.declared.stop.Stop.TheVariants as stop
-use Rattle.ajweave.specs.Words.{Folders, usage_line, not_built_line}
+use Rattle.ajweave.specs.Words.{Folders, usage_line, refusal_line}
 use Rattle.ajweave.specs.Answers.{AnswersPrinted, AnswersRead, AnswersDone, IsRefused, IsValid, Wrote, WritesWeaving, BehavesAsWritten, WritesExactly, WritesUntouched, WritesDeclared, OnTold, Commanded, CommandedTo, CommandedSome, KeepsShelf, IsDue, PrintsPart, Prints}
 use Rattle.ajweave.specs.Steps.{Ends, PrintsFor, Reports}
 use Rattle.ajweave.proofs.Refusals.{IsRefused-same, IsValid-never_refused}
@@ -25,11 +25,11 @@ Text = Option (List ℕ)
 abbrev some_text : List ℕ → Text
 some_text text = Some text
 
-abbrev refusal : List ℕ → Status
-refusal name = status.Refused (NotBuilt name)
+abbrev refused : Refusal → Status
+refused refusal = status.Refused refusal
 
-refusal-same : (a b : List ℕ) → refusal a ≡ refusal b → a ≡ b
-refusal-same a b h = cc
+refused-same : (a b : Refusal) → refused a ≡ refused b → a ≡ b
+refused-same a b h = cc
 
 -- ---- one weaving has each of the views
 
@@ -64,22 +64,22 @@ declared_by = CommandedTo-weaker WritesWeaving WritesDeclared (Wrote-weaker _ _ 
 -- ---- an answer after a command
 
 -- the cases of how a command ended and of what was answered
-after_command : (P : Ended → Status → Type 0) → ((x : Unit {0}) → P (Ok x) status.Done) → P (Err stop.Read) status.ReadFault → P (Err stop.Write) status.WriteFault → P (Err stop.Memory) status.OutOfMemory → ((name : List ℕ) → P (Err (stop.NotBuilt name)) (status.Refused (NotBuilt name))) → ((name : List ℕ) → P (Err (stop.NotBuilt name)) status.PrintFault) → ((name : List ℕ) → P (Err (stop.NotBuilt name)) status.OutOfMemory) → (ended : Ended) (result : Status) (before now : Text) → Reports ended result before now → P ended result
+after_command : (P : Ended → Status → Type 0) → ((x : Unit {0}) → P (Ok x) status.Done) → P (Err stop.Read) status.ReadFault → P (Err stop.Write) status.WriteFault → P (Err stop.Memory) status.OutOfMemory → ((refusal : Refusal) → P (Err (stop.Refused refusal)) (status.Refused refusal)) → ((refusal : Refusal) → P (Err (stop.Refused refusal)) status.PrintFault) → ((refusal : Refusal) → P (Err (stop.Refused refusal)) status.OutOfMemory) → (ended : Ended) (result : Status) (before now : Text) → Reports ended result before now → P ended result
 after_command P done read write memory refused unprinted unmade (Ok x) result before now r = subst (P (Ok x)) (sym r.0) (done x)
 after_command P done read write memory refused unprinted unmade (Err stop.Read) result before now r = subst (P (Err stop.Read)) (sym r.0) read
 after_command P done read write memory refused unprinted unmade (Err stop.Write) result before now r = subst (P (Err stop.Write)) (sym r.0) write
 after_command P done read write memory refused unprinted unmade (Err stop.Memory) result before now r = subst (P (Err stop.Memory)) (sym r.0) memory
-after_command P done read write memory refused unprinted unmade (Err (stop.NotBuilt name)) result before now r = by r
+after_command P done read write memory refused unprinted unmade (Err (stop.Refused refusal)) result before now r = by r
   where
-    by : PrintsFor (status.Refused (NotBuilt name)) (not_built_line name) result before now → P (Err (stop.NotBuilt name)) result
-    by (inl p) = subst (P (Err (stop.NotBuilt name))) (sym p.0) (refused name)
-    by (inr (inl e, q)) = subst (P (Err (stop.NotBuilt name))) (sym e) (unprinted name)
-    by (inr (inr e, q)) = subst (P (Err (stop.NotBuilt name))) (sym e) (unmade name)
+    by : PrintsFor (status.Refused refusal) (refusal_line refusal) result before now → P (Err (stop.Refused refusal)) result
+    by (inl p) = subst (P (Err (stop.Refused refusal))) (sym p.0) (refused refusal)
+    by (inr (inl e, q)) = subst (P (Err (stop.Refused refusal))) (sym e) (unprinted refusal)
+    by (inr (inr e, q)) = subst (P (Err (stop.Refused refusal))) (sym e) (unmade refusal)
 
 pub done_ended : (folders : Folders) (held held_now : Option Files) (ended : Ended) (result : Status) (before now : Text) → Reports ended result before now → Ends ended folders held held_now → result ≡ status.Done → CommandedTo (Some folders) held held_now WritesWeaving × IfSome held (λ files. IsValid folders.input files)
 done_ended folders held held_now =
     after_command (λ ended result. Ends ended folders held held_now → result ≡ status.Done → CommandedTo (Some folders) held held_now WritesWeaving × IfSome held (λ files. IsValid folders.input files))
-    (λ x e d. e) (λ e d. cc) (λ e d. cc) (λ e d. cc) (λ name e d. cc) (λ name e d. cc) (λ name e d. cc)
+    (λ x e d. e) (λ e d. cc) (λ e d. cc) (λ e d. cc) (λ refusal e d. cc) (λ refusal e d. cc) (λ refusal e d. cc)
 
 pub done_valid : (folders : Folders) (held : Option Files) → IfSome held (λ files. IsValid folders.input files) → Commanded (Some folders) held (λ folders files. IsValid folders.input files)
 done_valid folders None h = tt
@@ -87,41 +87,41 @@ done_valid folders (Some files) h = h
 
 pub command_never_usage : (ended : Ended) (result : Status) (before now : Text) → Reports ended result before now → result ≡ status.Usage → ⊥
 command_never_usage =
-    after_command (λ ended result. result ≡ status.Usage → ⊥) (λ x d. cc) (λ d. cc) (λ d. cc) (λ d. cc) (λ name d. cc) (λ name d. cc) (λ name d. cc)
+    after_command (λ ended result. result ≡ status.Usage → ⊥) (λ x d. cc) (λ d. cc) (λ d. cc) (λ d. cc) (λ refusal d. cc) (λ refusal d. cc) (λ refusal d. cc)
 
 pub read_ended : (ended : Ended) (result : Status) (before now : Text) → Reports ended result before now → (result ≡ status.ReadFault) ↔ (ended ≡ Err stop.Read)
 read_ended =
     after_command (λ ended result. (result ≡ status.ReadFault) ↔ (ended ≡ Err stop.Read))
-    (λ x. (λ d. cc, λ d. cc)) (λ d. refl, λ d. refl) (λ d. cc, λ d. cc) (λ d. cc, λ d. cc) (λ name. (λ d. cc, λ d. cc)) (λ name. (λ d. cc, λ d. cc)) (λ name. (λ d. cc, λ d. cc))
+    (λ x. (λ d. cc, λ d. cc)) (λ d. refl, λ d. refl) (λ d. cc, λ d. cc) (λ d. cc, λ d. cc) (λ refusal. (λ d. cc, λ d. cc)) (λ refusal. (λ d. cc, λ d. cc)) (λ refusal. (λ d. cc, λ d. cc))
 
 pub write_ended : (ended : Ended) (result : Status) (before now : Text) → Reports ended result before now → (result ≡ status.WriteFault) ↔ (ended ≡ Err stop.Write)
 write_ended =
     after_command (λ ended result. (result ≡ status.WriteFault) ↔ (ended ≡ Err stop.Write))
-    (λ x. (λ d. cc, λ d. cc)) (λ d. cc, λ d. cc) (λ d. refl, λ d. refl) (λ d. cc, λ d. cc) (λ name. (λ d. cc, λ d. cc)) (λ name. (λ d. cc, λ d. cc)) (λ name. (λ d. cc, λ d. cc))
+    (λ x. (λ d. cc, λ d. cc)) (λ d. cc, λ d. cc) (λ d. refl, λ d. refl) (λ d. cc, λ d. cc) (λ refusal. (λ d. cc, λ d. cc)) (λ refusal. (λ d. cc, λ d. cc)) (λ refusal. (λ d. cc, λ d. cc))
 
 abbrev RefusedFor : Folders → Option Files → Status → Type 0
 RefusedFor folders held result =
-    OnTold (Some folders) held (λ folders files. (name : List ℕ) → IsRefused folders.input files name → AnswersRead (status.Refused (NotBuilt name)) result)
+    OnTold (Some folders) held (λ folders files. (refusal : Refusal) → IsRefused folders.input files refusal → AnswersRead (status.Refused refusal) result)
 
 pub refused_ended : (folders : Folders) (held held_now : Option Files) (ended : Ended) (result : Status) (before now : Text) → Reports ended result before now → Ends ended folders held held_now → RefusedFor folders held result
 refused_ended folders None held_now ended result before now r e = tt
 refused_ended folders (Some files) held_now ended result before now r e =
-    after_command (λ ended result. Ends ended folders (Some files) held_now → (name : List ℕ) → IsRefused folders.input files name → AnswersRead (status.Refused (NotBuilt name)) result)
-    (λ x e name h. absurd (IsValid-never_refused folders.input files name e.1 h))
-    (λ e name h. inl refl)
-    (λ e name h. absurd (IsValid-never_refused folders.input files name e.1 h))
-    (λ e name h. inr (inr (inr refl)))
-    (λ other e name h. inr (inl (ap (λ (n : List ℕ). refusal n) (IsRefused-same folders.input files other name e.1 h))))
-    (λ other e name h. inr (inr (inl refl)))
-    (λ other e name h. inr (inr (inr refl)))
+    after_command (λ ended result. Ends ended folders (Some files) held_now → (refusal : Refusal) → IsRefused folders.input files refusal → AnswersRead (status.Refused refusal) result)
+    (λ x e refusal h. absurd (IsValid-never_refused folders.input files refusal e.1 h))
+    (λ e refusal h. inl refl)
+    (λ e refusal h. absurd (IsValid-never_refused folders.input files refusal e.1 h))
+    (λ e refusal h. inr (inr (inr refl)))
+    (λ other e refusal h. inr (inl (ap refused (IsRefused-same folders.input files other refusal e.1 h))))
+    (λ other e refusal h. inr (inr (inl refl)))
+    (λ other e refusal h. inr (inr (inr refl)))
     ended result before now r e
 
-pub refused_only_ended : (folders : Folders) (held held_now : Option Files) (ended : Ended) (result : Status) (before now : Text) → Reports ended result before now → Ends ended folders held held_now → (name : List ℕ) → result ≡ status.Refused (NotBuilt name) → Commanded (Some folders) held (λ folders files. IsRefused folders.input files name)
-refused_only_ended folders None held_now ended result before now r e name is = tt
-refused_only_ended folders (Some files) held_now ended result before now r e name is =
-    after_command (λ ended result. Ends ended folders (Some files) held_now → result ≡ status.Refused (NotBuilt name) → IsRefused folders.input files name)
+pub refused_only_ended : (folders : Folders) (held held_now : Option Files) (ended : Ended) (result : Status) (before now : Text) → Reports ended result before now → Ends ended folders held held_now → (refusal : Refusal) → result ≡ status.Refused refusal → Commanded (Some folders) held (λ folders files. IsRefused folders.input files refusal)
+refused_only_ended folders None held_now ended result before now r e refusal is = tt
+refused_only_ended folders (Some files) held_now ended result before now r e refusal is =
+    after_command (λ ended result. Ends ended folders (Some files) held_now → result ≡ status.Refused refusal → IsRefused folders.input files refusal)
     (λ x e d. cc) (λ e d. cc) (λ e d. cc) (λ e d. cc)
-    (λ other e d. subst (λ (n : List ℕ). IsRefused folders.input files n) (refusal-same other name d) e.1)
+    (λ other e d. subst (IsRefused folders.input files) (refused-same other refusal d) e.1)
     (λ other e d. cc) (λ other e d. cc)
     ended result before now r e is
 
@@ -133,25 +133,25 @@ complete_ended folders (Some files) held_now ended result before now r e =
     (λ e v. inr (inl refl))
     (λ e v. inr (inr (inl refl)))
     (λ e v. inr (inr (inr refl)))
-    (λ name e v. absurd (IsValid-never_refused folders.input files name v e.1))
-    (λ name e v. absurd (IsValid-never_refused folders.input files name v e.1))
-    (λ name e v. inr (inr (inr refl)))
+    (λ refusal e v. absurd (IsValid-never_refused folders.input files refusal v e.1))
+    (λ refusal e v. absurd (IsValid-never_refused folders.input files refusal v e.1))
+    (λ refusal e v. inr (inr (inr refl)))
     ended result before now r e
 
 pub kept_ended : (folders : Folders) (held held_now : Option Files) (ended : Ended) (result : Status) (before now : Text) → Reports ended result before now → Ends ended folders held held_now → KeepsShelf result held held_now
 kept_ended folders held held_now =
     after_command (λ ended result. Ends ended folders held held_now → KeepsShelf result held held_now)
-    (λ x e. tt) (λ e. e) (λ e. tt) (λ e. tt) (λ name e. e.0) (λ name e. e.0) (λ name e. tt)
+    (λ x e. tt) (λ e. e) (λ e. tt) (λ e. tt) (λ refusal e. e.0) (λ refusal e. e.0) (λ refusal e. tt)
 
 pub some_ended : (folders : Folders) (held held_now : Option Files) (ended : Ended) (result : Status) (before now : Text) → Reports ended result before now → Ends ended folders held held_now → result ≡ status.WriteFault → CommandedSome (Some folders) held held_now
 some_ended folders held held_now =
     after_command (λ ended result. Ends ended folders held held_now → result ≡ status.WriteFault → CommandedSome (Some folders) held held_now)
-    (λ x e d. cc) (λ e d. cc) (λ e d. e.0) (λ e d. cc) (λ name e d. cc) (λ name e d. cc) (λ name e d. cc)
+    (λ x e d. cc) (λ e d. cc) (λ e d. e.0) (λ e d. cc) (λ refusal e d. cc) (λ refusal e d. cc) (λ refusal e d. cc)
 
 pub memory_ended : (folders : Folders) (held held_now : Option Files) (ended : Ended) (result : Status) (before now : Text) → Reports ended result before now → Ends ended folders held held_now → result ≡ status.OutOfMemory → (held_now ≡ held) ⊎ CommandedSome (Some folders) held held_now
 memory_ended folders held held_now =
     after_command (λ ended result. Ends ended folders held held_now → result ≡ status.OutOfMemory → (held_now ≡ held) ⊎ CommandedSome (Some folders) held held_now)
-    (λ x e d. cc) (λ e d. cc) (λ e d. cc) (λ e d. e) (λ name e d. cc) (λ name e d. cc) (λ name e d. inl e.0)
+    (λ x e d. cc) (λ e d. cc) (λ e d. cc) (λ e d. e) (λ refusal e d. cc) (λ refusal e d. cc) (λ refusal e d. inl e.0)
 
 -- ---- what was printed
 
@@ -181,8 +181,8 @@ printed_ended folders held held_now (Err stop.Write) result before now r e =
     subst (λ (s : Status). Prints s (Some folders) held before now) (sym r.0) (printed_nothing before now r.1)
 printed_ended folders held held_now (Err stop.Memory) result before now r e =
     subst (λ (s : Status). Prints s (Some folders) held before now) (sym r.0) (inl r.1)
-printed_ended folders held held_now (Err (stop.NotBuilt name)) result before now r e =
-    prints_for (Some folders) held (status.Refused (NotBuilt name)) (not_built_line name) result before now (name, refl, e.1) (λ p. p) r
+printed_ended folders held held_now (Err (stop.Refused refusal)) result before now r e =
+    prints_for (Some folders) held (status.Refused refusal) (refusal_line refusal) result before now (refusal, refl, e.1) (λ p. p) r
 
 -- ---- the answer where there is no command
 
@@ -196,10 +196,10 @@ pub usage_answers : (result : Status) (before now : Text) → PrintsFor status.U
 usage_answers = without_command (AnswersPrinted status.Usage) (inl refl) (inr (inl refl)) (inr (inr refl))
 
 -- it is none of the other answers
-pub usage_never : (result : Status) (before now : Text) → PrintsFor status.Usage usage_line result before now → (result ≢ status.Done) × (result ≢ status.ReadFault) × (result ≢ status.WriteFault) × ((name : List ℕ) → result ≢ status.Refused (NotBuilt name))
+pub usage_never : (result : Status) (before now : Text) → PrintsFor status.Usage usage_line result before now → (result ≢ status.Done) × (result ≢ status.ReadFault) × (result ≢ status.WriteFault) × ((refusal : Refusal) → result ≢ status.Refused refusal)
 usage_never =
-    without_command (λ result. (result ≢ status.Done) × (result ≢ status.ReadFault) × (result ≢ status.WriteFault) × ((name : List ℕ) → result ≢ status.Refused (NotBuilt name)))
-    (λ d. cc, λ d. cc, λ d. cc, λ name d. cc) (λ d. cc, λ d. cc, λ d. cc, λ name d. cc) (λ d. cc, λ d. cc, λ d. cc, λ name d. cc)
+    without_command (λ result. (result ≢ status.Done) × (result ≢ status.ReadFault) × (result ≢ status.WriteFault) × ((refusal : Refusal) → result ≢ status.Refused refusal))
+    (λ d. cc, λ d. cc, λ d. cc, λ refusal d. cc) (λ d. cc, λ d. cc, λ d. cc, λ refusal d. cc) (λ d. cc, λ d. cc, λ d. cc, λ refusal d. cc)
 
 pub usage_kept : (held : Option Files) (result : Status) (before now : Text) → PrintsFor status.Usage usage_line result before now → KeepsShelf result held held
 usage_kept held = without_command (λ result. KeepsShelf result held held) refl refl tt

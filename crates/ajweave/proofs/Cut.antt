@@ -1,25 +1,24 @@
--- Files that are cut to their first bytes say what the whole files say, and are built where those are:
--- a file that is cut has too many bytes to be built.
-use Rattle.std.proofs.Common.{◌≡◌, ℕ, zero, suc, ◌<◌, ◌≤◌, ◌&&◌, Bool, true, false, IsTrue, MatchBool, List, [], ◌∷◌, length, map, take, cond, Option, Some, refl, ap, sym, ◌∙◌, subst, arith, nat_le, slice_get, leb-true}
-use Rattle.std.specs.Option.{option_map, unwrap_or}
+-- Files that are cut to their first bytes: one is too long exactly where the cut one is, and where none
+-- is, all are whole.
+use Rattle.std.proofs.Common.{◌≡◌, ℕ, ◌<◌, ◌≤◌, ◌&&◌, Bool, true, false, ltb, List, [], ◌∷◌, length, map, take, cond, inl, inr, Option, Some, None, refl, ap, sym, ◌∙◌, arith}
+use Rattle.std.specs.Option.{unwrap_or}
 use Rattle.std.specs.Ordering.{is_eq, ordering_reverse}
 use Rattle.std.specs.declared.cmp.Ordering.TheVariants.{Less, Greater}
 use Rattle.std.specs.Cmp.Lexicographic.{nat_list_cmp_total}
-use Rattle.std.specs.List.{filter, AllByRecursion}
+use Rattle.std.specs.List.{filter, find, AllByRecursion}
 use Rattle.std.specs.List.Sorted.{IsStrictlySortedBy}
+use Rattle.std.proofs.lemmas.Bool.{cases_lt, lt-ltb, le-ltb, ltb-false}
 use Rattle.std.proofs.lemmas.Cmp.{tied_itself}
 use Rattle.std.proofs.lemmas.List.{take_all, length-take}
-use Rattle.std.proofs.lemmas.Option.{none-some, same_Some, slice_get-map}
+use Rattle.std.proofs.lemmas.Option.{none-some, same_Some}
 use Rattle.aj_outside.specs.Files.{byte_order, Files, AreFiles, names, file_at, is_under, names_under}
-use Rattle.class_file.specs.declared.types.ClassFile.{ClassFile}
-use Rattle.class_file.specs.Spelling.{spelling}
-use Rattle.class_file.specs.FirstForm.{is_first_form}
-use Rattle.jp_model.specs.declared.first_aspect.FirstAspect.{FirstAspect}
-use Rattle.jp_model.specs.AspectText.{SpellsAspect}
-use Rattle.jp_model.specs.Input.{is_class_file, is_other_file, is_input, inputs_in, SpellsClass, Reads, HasClassNamed, HasEarlier, IsBuiltClass, IsBuiltAspect, IsBuiltAt, AllBuilt, IsNotBuilt}
+use Rattle.jp_model.specs.Input.{is_input, inputs_in, is_big, IsFirst}
 
 abbrev File : Type 0
 File = List ℕ × List ℕ
+
+abbrev some : File → Option File
+some f = Some f
 
 -- the first n bytes of a file
 abbrev pub cut : ℕ → List ℕ × List ℕ → List ℕ × List ℕ
@@ -27,168 +26,48 @@ cut n f = (f.0, take n f.1)
 
 -- ---- the bytes
 
-and_right : (a b : Bool) → IsTrue (a && b) → IsTrue b
-and_right true b h = h
-and_right false b h = cc
+big_same : (n : ℕ) (xs : List ℕ) → 16777216 < n → ltb 16777216 (length (take n xs)) ≡ ltb 16777216 (length xs)
+big_same n xs big = elim (cases_lt 16777216 (length xs)) [
+  | inl more ↦ lt-ltb 16777216 (length (take n xs)) (omega (arith, length-take n xs)) ∙ sym (lt-ltb 16777216 (length xs) more)
+  | inr few ↦ le-ltb 16777216 (length (take n xs)) (omega (arith, length-take n xs)) ∙ sym (le-ltb 16777216 (length xs) few)
+]
 
-cut_whole : (n : ℕ) (xs : List ℕ) → length (take n xs) < n → take n xs ≡ xs
-cut_whole n xs h = take_all n xs (omega (arith, length-take n xs))
+first_here : (f : File) (files : Files) (b : Bool) → is_big f ≡ b → b ≡ true → find is_big (f ∷ files) ≡ Some f
+first_here f files b e t = ap (λ (x : Bool). cond x (some f) (find is_big files)) (e ∙ t)
 
-short_class : (c : ClassFile) → IsTrue (is_first_form c && nat_le (length (spelling c)) 65536) → length (spelling c) ≤ 65536
-short_class c h = leb-true (length (spelling c)) 65536 (and_right (is_first_form c) (nat_le (length (spelling c)) 65536) h)
+first_behind : (f : File) (files : Files) (name : List ℕ) → is_big f ≡ false → IsFirst is_big files name → IsFirst is_big (f ∷ files) name
+first_behind f files name e h = record { bytes = h.bytes; found = ap (λ (x : Bool). cond x (some f) (find is_big files)) e ∙ h.found }
 
-class_from_cut : (n : ℕ) (bytes : List ℕ) (c : ClassFile) → 16777216 < n → SpellsClass (take n bytes) c → SpellsClass bytes c
-class_from_cut n bytes c big h =
-    let few : length (spelling c) ≤ 65536 = short_class c h.formed in
-    let same : length (take n bytes) ≡ length (spelling c) = ap length h.spelled in
-    record { formed = h.formed; spelled = sym (cut_whole n bytes (omega arith)) ∙ h.spelled }
+abbrev pair : List ℕ → List ℕ → File
+pair name bytes = (name, bytes)
 
-class_to_cut : (n : ℕ) (bytes : List ℕ) (c : ClassFile) → 16777216 < n → SpellsClass bytes c → SpellsClass (take n bytes) c
-class_to_cut n bytes c big h =
-    let few : length (spelling c) ≤ 65536 = short_class c h.formed in
-    let same : length bytes ≡ length (spelling c) = ap length h.spelled in
-    record { formed = h.formed; spelled = take_all n bytes (omega arith) ∙ h.spelled }
+-- the first of the cut files that is too long is the first of the whole ones
+pub IsFirst-from_cut : (n : ℕ) (files : Files) (name : List ℕ) → 16777216 < n → IsFirst is_big (map (cut n) files) name → IsFirst is_big files name
+IsFirst-from_cut n [] name big h = absurd (none-some (name, h.bytes) h.found)
+IsFirst-from_cut n (f ∷ files) name big h =
+    by (is_big f) refl (ap (λ (b : Bool). cond b (some (cut n f)) (find is_big (map (cut n) files))) (sym (big_same n f.1 big)) ∙ h.found)
+    (λ e. IsFirst-from_cut n files name big (record { bytes = h.bytes; found = e }))
+  where
+    by : (b : Bool) → is_big f ≡ b → cond b (some (cut n f)) (find is_big (map (cut n) files)) ≡ Some (name, h.bytes) → (find is_big (map (cut n) files) ≡ Some (name, h.bytes) → IsFirst is_big files name) → IsFirst is_big (f ∷ files) name
+    by true e g later =
+        let same : f.0 ≡ name = ap (λ (x : File). x.0) (same_Some (cut n f) (name, h.bytes) g) in
+        record { bytes = f.1; found = first_here f files true e refl ∙ ap (λ (m : List ℕ). some (pair m f.1)) same }
+    by false e g later = first_behind f files name e (later g)
 
-aspect_from_cut : (n : ℕ) (bytes : List ℕ) (a : FirstAspect) → 16777216 < n → SpellsAspect (take n bytes) a → SpellsAspect bytes a
-aspect_from_cut n bytes a big h =
-    let few : length (take n bytes) ≤ 16777216 = leb-true (length (take n bytes)) 16777216 h.bounded in
-    subst (λ (b : List ℕ). SpellsAspect b a) (cut_whole n bytes (omega arith)) h
+same_file : (f : File) (bytes : List ℕ) → bytes ≡ f.1 → ◌≡◌ {A = File} (f.0, bytes) f
+same_file f bytes e = ap (pair f.0) e
 
-aspect_to_cut : (n : ℕ) (bytes : List ℕ) (a : FirstAspect) → 16777216 < n → SpellsAspect bytes a → SpellsAspect (take n bytes) a
-aspect_to_cut n bytes a big h =
-    let few : length bytes ≤ 16777216 = leb-true (length bytes) 16777216 h.bounded in
-    subst (λ (b : List ℕ). SpellsAspect b a) (sym (take_all n bytes (omega arith))) h
-
--- ---- places
-
-at_cut : (n : ℕ) (files : Files) (k : ℕ) (file : File) → slice_get (map (cut n) files) k ≡ Some file → (whole : File) × (slice_get files k ≡ Some whole) × (file ≡ cut n whole)
-at_cut n [] k file h = absurd (none-some file h)
-at_cut n (f ∷ files) zero file h = (f, refl, sym (same_Some (cut n f) file h))
-at_cut n (f ∷ files) (suc k) file h = at_cut n files k file h
-
-at_whole : (n : ℕ) (files : Files) (k : ℕ) (whole : File) → slice_get files k ≡ Some whole → slice_get (map (cut n) files) k ≡ Some (cut n whole)
-at_whole n files k whole h = slice_get-map (cut n) files k ∙ ap (option_map (cut n)) h
-
-earlier_from_cut : (n : ℕ) (is_kind : List ℕ → Bool) (files : Files) (place : ℕ) → HasEarlier is_kind (map (cut n) files) place → HasEarlier is_kind files place
-earlier_from_cut n is_kind files place h =
-    let w = at_cut n files h.0 h.1 h.3 in
-    (h.0, w.0, h.2, w.1, sym (ap (λ (f : File). is_kind f.0) w.2) ∙ h.4)
-
-earlier_to_cut : (n : ℕ) (is_kind : List ℕ → Bool) (files : Files) (place : ℕ) → HasEarlier is_kind files place → HasEarlier is_kind (map (cut n) files) place
-earlier_to_cut n is_kind files place h = (h.0, cut n h.1, h.2, at_whole n files h.0 h.1 h.3, h.4)
-
-named_from_cut : (n : ℕ) (files : Files) (name : List ℕ) → 16777216 < n → HasClassNamed (map (cut n) files) name → HasClassNamed files name
-named_from_cut n files name big h =
-    let w = at_cut n files h.place h.file h.stands in
-    record {
-      place = h.place;
-      file = w.0;
-      stands = w.1;
-      kind = sym (ap (λ (f : File). is_class_file f.0) w.2) ∙ h.kind;
-      class = h.class;
-      spelled = class_from_cut n w.0.1 h.class big (subst (λ (f : File). SpellsClass f.1 h.class) w.2 h.spelled);
-      named = h.named;
-    }
-
-named_to_cut : (n : ℕ) (files : Files) (name : List ℕ) → 16777216 < n → HasClassNamed files name → HasClassNamed (map (cut n) files) name
-named_to_cut n files name big h = record {
-  place = h.place;
-  file = cut n h.file;
-  stands = at_whole n files h.place h.file h.stands;
-  kind = h.kind;
-  class = h.class;
-  spelled = class_to_cut n h.file.1 h.class big h.spelled;
-  named = h.named;
-}
-
--- ---- what is built
-
-built_class_from_cut : (n : ℕ) (files : Files) (place : ℕ) (bytes : List ℕ) → 16777216 < n → IsBuiltClass (map (cut n) files) place (take n bytes) → IsBuiltClass files place bytes
-built_class_from_cut n files place bytes big h = record {
-  class = h.class;
-  spelled = class_from_cut n bytes h.class big h.spelled;
-  first = λ e. h.first (earlier_to_cut n is_class_file files place e);
-}
-
-built_class_to_cut : (n : ℕ) (files : Files) (place : ℕ) (bytes : List ℕ) → 16777216 < n → IsBuiltClass files place bytes → IsBuiltClass (map (cut n) files) place (take n bytes)
-built_class_to_cut n files place bytes big h = record {
-  class = h.class;
-  spelled = class_to_cut n bytes h.class big h.spelled;
-  first = λ e. h.first (earlier_from_cut n is_class_file files place e);
-}
-
-built_aspect_from_cut : (n : ℕ) (files : Files) (place : ℕ) (bytes : List ℕ) → 16777216 < n → IsBuiltAspect (map (cut n) files) place (take n bytes) → IsBuiltAspect files place bytes
-built_aspect_from_cut n files place bytes big h = record {
-  aspect = h.aspect;
-  spelled = aspect_from_cut n bytes h.aspect big h.spelled;
-  first = λ e. h.first (earlier_to_cut n is_other_file files place e);
-  own_name = λ e. h.own_name (named_to_cut n files _ big e);
-  system = λ e. h.system (named_to_cut n files _ big e);
-}
-
-built_aspect_to_cut : (n : ℕ) (files : Files) (place : ℕ) (bytes : List ℕ) → 16777216 < n → IsBuiltAspect files place bytes → IsBuiltAspect (map (cut n) files) place (take n bytes)
-built_aspect_to_cut n files place bytes big h = record {
-  aspect = h.aspect;
-  spelled = aspect_to_cut n bytes h.aspect big h.spelled;
-  first = λ e. h.first (earlier_from_cut n is_other_file files place e);
-  own_name = λ e. h.own_name (named_from_cut n files _ big e);
-  system = λ e. h.system (named_from_cut n files _ big e);
-}
-
-either : (P Q P' Q' : Type 0) (b : Bool) → (P → P') → (Q → Q') → MatchBool b P Q → MatchBool b P' Q'
-either P Q P' Q' true f g h = f h
-either P Q P' Q' false f g h = g h
-
-built_from_cut : (n : ℕ) (files : Files) (place : ℕ) (file : File) → 16777216 < n → IsBuiltAt (map (cut n) files) place (cut n file) → IsBuiltAt files place file
-built_from_cut n files place file big h =
-    either (IsBuiltClass (map (cut n) files) place (take n file.1)) (IsBuiltAspect (map (cut n) files) place (take n file.1)) (IsBuiltClass files place file.1) (IsBuiltAspect files place file.1) (is_class_file file.0) (built_class_from_cut n files place file.1 big) (built_aspect_from_cut n files place file.1 big) h
-
-built_to_cut : (n : ℕ) (files : Files) (place : ℕ) (file : File) → 16777216 < n → IsBuiltAt files place file → IsBuiltAt (map (cut n) files) place (cut n file)
-built_to_cut n files place file big h =
-    either (IsBuiltClass files place file.1) (IsBuiltAspect files place file.1) (IsBuiltClass (map (cut n) files) place (take n file.1)) (IsBuiltAspect (map (cut n) files) place (take n file.1)) (is_class_file file.0) (built_class_to_cut n files place file.1 big) (built_aspect_to_cut n files place file.1 big) h
-
-abbrev some_file : List ℕ → List ℕ → Option File
-some_file name bytes = Some (name, bytes)
-
--- where each file that was cut is built, each whole one is
-pub AllBuilt-from_cut : (n : ℕ) (files : Files) → 16777216 < n → AllBuilt (map (cut n) files) → AllBuilt files
-AllBuilt-from_cut n files big h place file at =
-    built_from_cut n files place file big (h place (cut n file) (at_whole n files place file at))
-
--- the first file that isn't built among those that were cut is the first among the whole ones
-pub IsNotBuilt-from_cut : (n : ℕ) (files : Files) (name : List ℕ) → 16777216 < n → IsNotBuilt (map (cut n) files) name → IsNotBuilt files name
-IsNotBuilt-from_cut n files name big h =
-    let w = at_cut n files h.place (name, h.bytes) h.first.stands in
-    let same_name : name ≡ w.0.0 = ap (λ (f : File). f.0) w.2 in
-    let same_bytes : h.bytes ≡ take n w.0.1 = ap (λ (f : File). f.1) w.2 in
-    record {
-      place = h.place;
-      bytes = w.0.1;
-      first = record {
-        stands = w.1 ∙ ap (λ (m : List ℕ). some_file m w.0.1) (sym same_name);
-        refused = λ b. h.first.refused (subst (λ (x : List ℕ). IsBuiltAt (map (cut n) files) h.place (name, x)) (sym same_bytes) (built_to_cut n files h.place (name, w.0.1) big b));
-        earlier = λ before other lt at. built_from_cut n files before other big (h.first.earlier before (cut n other) lt (at_whole n files before other at));
-      };
-    }
-
--- ---- what the files say
-
-abbrev SaysClass : Files → List ℕ → List ClassFile → List FirstAspect → Type 0
-SaysClass files bytes classes aspects =
-    (c : ClassFile) × (rest : List ClassFile) × (classes ≡ c ∷ rest) × SpellsClass bytes c × Reads files rest aspects
-
-abbrev SaysAspect : Files → List ℕ → List ClassFile → List FirstAspect → Type 0
-SaysAspect files bytes classes aspects =
-    (a : FirstAspect) × (rest : List FirstAspect) × (aspects ≡ a ∷ rest) × SpellsAspect bytes a × Reads files classes rest
-
--- what the files say that were cut, the whole ones say
-pub Reads-from_cut : (n : ℕ) (files : Files) (classes : List ClassFile) (aspects : List FirstAspect) → 16777216 < n → Reads (map (cut n) files) classes aspects → Reads files classes aspects
-Reads-from_cut n [] classes aspects big h = h
-Reads-from_cut n (f ∷ files) classes aspects big h =
-    either (SaysClass (map (cut n) files) (take n f.1) classes aspects) (SaysAspect (map (cut n) files) (take n f.1) classes aspects) (SaysClass files f.1 classes aspects) (SaysAspect files f.1 classes aspects) (is_class_file f.0)
-    (λ p. (p.0, p.1, p.2, class_from_cut n f.1 p.0 big p.3, Reads-from_cut n files p.1 aspects big p.4))
-    (λ p. (p.0, p.1, p.2, aspect_from_cut n f.1 p.0 big p.3, Reads-from_cut n files classes p.1 big p.4))
-    h
+-- where none of the cut files is too long, they are whole
+pub whole-from_cut : (n : ℕ) (files : Files) → 16777216 < n → find is_big (map (cut n) files) ≡ None → map (cut n) files ≡ files
+whole-from_cut n [] big h = refl
+whole-from_cut n (f ∷ files) big h = by (is_big (cut n f)) refl h (whole-from_cut n files big)
+  where
+    by : (b : Bool) → is_big (cut n f) ≡ b → cond b (some (cut n f)) (find is_big (map (cut n) files)) ≡ None → (find is_big (map (cut n) files) ≡ None → map (cut n) files ≡ files) → map (cut n) (f ∷ files) ≡ f ∷ files
+    by true e h later = absurd (none-some (cut n f) (sym h))
+    by false e h later =
+        let few : length (take n f.1) ≤ 16777216 = ltb-false 16777216 (length (take n f.1)) e in
+        let all : take n f.1 ≡ f.1 = take_all n f.1 (omega (arith, length-take n f.1)) in
+        ap (λ (g : File). g ∷ map (cut n) files) (same_file f (take n f.1) all) ∙ ap (λ (fs : Files). f ∷ fs) (later h)
 
 -- ---- reading by the names
 

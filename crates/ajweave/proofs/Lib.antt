@@ -5,3 +5,4 @@ pub mod Reading
 pub mod Refusals
 pub mod Weaving
 pub mod Writing
+pub mod Sizes

@@ -1,5 +1,5 @@
 -- What is listed and read of files that are told.
-use Rattle.std.proofs.Common.{◌≡◌, ℕ, zero, suc, ◌+◌, ◌<◌, ◌≤◌, List, [], ◌∷◌, ◌++◌, length, map, take, get_or, cond, Bool, true, false, Option, Some, None, Result, Ok, Err, refl, ap, sym, ◌∙◌, subst, arith, slice_get}
+use Rattle.std.proofs.Common.{◌≡◌, ℕ, ◌+◌, ◌<◌, ◌≤◌, List, [], ◌∷◌, ◌++◌, length, map, take, get_or, cond, Bool, true, false, Option, Some, None, Result, Ok, Err, refl, ap, sym, ◌∙◌, subst, arith}
 use Rattle.std.specs.Prelude.{IfSome, IsSome}
 use Rattle.std.specs.Option.{option_map, unwrap_or}
 use Rattle.std.specs.List.{filter, All, AllByRecursion}
@@ -11,10 +11,11 @@ use Rattle.aj_outside.specs.FileLaws.{file_at-names_under}
 use Rattle.jp_model.specs.Input.{is_input}
 use Rattle.weave_plan.specs.declared.planning.NamedFile.{NamedFile}
 use Rattle.weave_plan.specs.Plan.{files_of}
+use Rattle.ajweave.specs.declared.status.Refusal.{Refusal}
 use Rattle.ajweave.specs.declared.stop.Stop.{Stop}
 use Rattle.ajweave.specs.declared.stop.Stop.TheVariants as stop
-use Rattle.ajweave.specs.Answers.{most_names, in_folder}
-use Rattle.ajweave.specs.Steps.{OnStop, IsRefusal, IsNoWriteStop, AreListed, IsOneTooMany, cut_at}
+use Rattle.ajweave.specs.Answers.{most_names}
+use Rattle.ajweave.specs.Steps.{OnStop, IsRefusal, IsNoWriteStop, AreListed, IsMany, cut_at}
 
 -- ---- the list of names
 
@@ -36,23 +37,21 @@ AreListed-whole folder held held_now names listed n more same ordered given whol
     by None o g = tt
     by (Some files) o g = subst (λ (ns : List (List ℕ)). AreListed folder files ns) (sym whole.0) (all_listed folder files names n more o g whole.1)
 
-slice_get-from_take : {X : Type 0} (n k : ℕ) (xs : List X) (x : X) → slice_get (take n xs) k ≡ Some x → slice_get xs k ≡ Some x
-slice_get-from_take zero k xs x h = absurd (none-some x h)
-slice_get-from_take (suc n) k [] x h = h
-slice_get-from_take (suc n) zero (y ∷ xs) x h = h
-slice_get-from_take (suc n) (suc k) (y ∷ xs) x h = slice_get-from_take n k xs x h
+many-from_take : (n : ℕ) (names xs : List (List ℕ)) (refusal : Refusal) → names ≡ take n xs → IsMany (length names) refusal → IsMany (length xs) refusal
+many-from_take n names xs refusal given h =
+    let cut : length names ≡ length (take n xs) = ap length given in
+    (h.0, omega (arith, h.1, length-take n xs))
 
-too_many : (folder : List ℕ) (held : Option Files) (names : List (List ℕ)) (n : ℕ) (name : List ℕ) → IfSome held (λ files. names ≡ take n (names_under folder files)) → slice_get names most_names ≡ Some (in_folder folder name) → IfSome held (λ files. IsOneTooMany folder files name)
-too_many folder None names n name given h = tt
-too_many folder (Some files) names n name given h =
-    slice_get-from_take n most_names (names_under folder files) (in_folder folder name) (sym (ap (λ (ns : List (List ℕ)). slice_get ns most_names) given) ∙ h)
+too_many : (folder : List ℕ) (held : Option Files) (names : List (List ℕ)) (n : ℕ) (refusal : Refusal) → IfSome held (λ files. names ≡ take n (names_under folder files)) → IsMany (length names) refusal → IfSome held (λ files. IsMany (length (names_under folder files)) refusal)
+too_many folder None names n refusal given h = tt
+too_many folder (Some files) names n refusal given h = many-from_take n names (names_under folder files) refusal given h
 
--- the name that is one too many is refused
-pub IsNoWriteStop-list : {T : Type 0} (folder : List ℕ) (held : Option Files) (names : List (List ℕ)) (n : ℕ) (r : Result T Stop) → IfSome held (λ files. names ≡ take n (names_under folder files)) → OnStop r (IsRefusal (λ name. slice_get names most_names ≡ Some (in_folder folder name))) → OnStop r (IsNoWriteStop (λ name. IfSome held (λ files. IsOneTooMany folder files name)))
+-- too many names are refused
+pub IsNoWriteStop-list : {T : Type 0} (folder : List ℕ) (held : Option Files) (names : List (List ℕ)) (n : ℕ) (r : Result T Stop) → IfSome held (λ files. names ≡ take n (names_under folder files)) → OnStop r (IsRefusal (IsMany (length names))) → OnStop r (IsNoWriteStop (λ refusal. IfSome held (λ files. IsMany (length (names_under folder files)) refusal)))
 IsNoWriteStop-list folder held names n (Ok x) given h = tt
 IsNoWriteStop-list folder held names n (Err stop.Read) given h = tt
 IsNoWriteStop-list folder held names n (Err stop.Write) given h = h
-IsNoWriteStop-list folder held names n (Err (stop.NotBuilt name)) given h = too_many folder held names n name given h
+IsNoWriteStop-list folder held names n (Err (stop.Refused refusal)) given h = too_many folder held names n refusal given h
 IsNoWriteStop-list folder held names n (Err stop.Memory) given h = tt
 
 -- ---- a file

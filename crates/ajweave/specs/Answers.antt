@@ -1,17 +1,20 @@
 -- When each answer comes, and what the shelf and the sink hold afterwards.
-use Rattle.std.specs.Prelude.{◌≡◌, ℕ, ◌≤◌, ◌⊎◌, List, [], ◌∷◌, ◌++◌, length, map, take, Option, Some, None, slice_get, IfSome}
+use Rattle.std.specs.Prelude.{◌≡◌, ℕ, ◌<◌, ◌≤◌, ◌⊎◌, List, [], ◌∷◌, ◌++◌, length, map, take, Option, Some, None, slice_get, IfSome}
+use Rattle.std.specs.List.{find}
 use Rattle.std.specs.Option.{option_map}
 use Rattle.aj_outside.specs.Counts.{Rose}
 use Rattle.aj_outside.specs.Files.{Files, names_under, put_each, OthersStay, AppendsPrefix}
 use Rattle.class_file.specs.declared.types.ClassFile.{ClassFile}
 use Rattle.jp_model.specs.declared.first_aspect.FirstAspect.{FirstAspect}
 use Rattle.jp_model.specs.AspectText.{aspect_of}
-use Rattle.jp_model.specs.Input.{inputs_in, Reads, AllBuilt, IsNotBuilt}
+use Rattle.jp_model.specs.Input.{inputs_in, Reads, IsFirst, is_big}
 use Rattle.jp_model.specs.Headline.{Behaves, AreExtended, HoldsUntouched, HoldsDeclared, IsWeaving, outputs_of, with_outputs}
-use Rattle.ajweave.specs.declared.status.Refusal.TheVariants.{NotBuilt}
+use Rattle.weave_plan.specs.Faults.{IsFirstFault, IsFirstUnbuilt, AreTaken}
+use Rattle.ajweave.specs.declared.status.Refusal.{Refusal}
+use Rattle.ajweave.specs.declared.status.Refusal.TheVariants as refusal
 use Rattle.ajweave.specs.declared.status.Status.{Status}
 use Rattle.ajweave.specs.declared.status.Status.TheVariants as status
-use Rattle.ajweave.specs.Words.{Folders, usage_line, not_built_line}
+use Rattle.ajweave.specs.Words.{Folders, usage_line, refusal_line}
 
 -- the number of an answer, with which the process ends
 abbrev pub code_of : Status → ℕ
@@ -53,16 +56,27 @@ most_names = 65536
 abbrev pub in_folder : List ℕ → List ℕ → List ℕ
 in_folder folder name = folder ++ (47 ∷ name)
 
--- The refused file, without its folder: the 65,537th that is listed where there are so many, else the
--- first that isn't of a form that is built.
-pub data IsRefused (folder : List ℕ) (files : Files) (name : List ℕ) : Type 0 where
-  TooMany : slice_get (names_under folder files) most_names ≡ Some (in_folder folder name) → IsRefused folder files name
-  Unbuilt : length (names_under folder files) ≤ most_names → IsNotBuilt (inputs_in folder files) (in_folder folder name) → IsRefused folder files name
-
--- the input is valid: not too many files, each of a form that is built
-pub record IsValid (folder : List ℕ) (files : Files) : Type 0 where
+-- not too many files are listed, and no input is too long
+pub record AreReadable (folder : List ℕ) (files : Files) : Type 0 where
   pub few : length (names_under folder files) ≤ most_names
-  pub built : AllBuilt (inputs_in folder files)
+  pub small : find is_big (inputs_in folder files) ≡ None
+
+-- The input is refused so, with a file without its folder. Of what is wrong the first counts: too many
+-- files, the first one by name that is too long, the first class file that is none, with its first fault,
+-- and the first file that isn't of a form that is built.
+abbrev pub IsRefused : List ℕ → Files → Refusal → Type 0
+IsRefused folder files refusal.ManyFiles = most_names < length (names_under folder files)
+IsRefused folder files (refusal.BigFile name) =
+    (length (names_under folder files) ≤ most_names) × IsFirst is_big (inputs_in folder files) (in_folder folder name)
+IsRefused folder files (refusal.Class name fault) =
+    AreReadable folder files × IsFirstFault (inputs_in folder files) (in_folder folder name) fault
+IsRefused folder files (refusal.NotBuilt name) =
+    AreReadable folder files × IsFirstUnbuilt (inputs_in folder files) (in_folder folder name)
+
+-- the input is valid: none of these holds
+pub record IsValid (folder : List ℕ) (files : Files) : Type 0 where
+  pub readable : AreReadable folder files
+  pub taken : AreTaken (inputs_in folder files)
 
 -- ---- what weaving leaves
 
@@ -148,7 +162,7 @@ KeepsShelf _ before now = now ≡ before
 
 -- the text that an answer prints
 abbrev pub printed_by : Status → List ℕ
-printed_by (status.Refused (NotBuilt name)) = not_built_line name
+printed_by (status.Refused refusal) = refusal_line refusal
 printed_by status.Usage = usage_line
 printed_by _ = []
 
@@ -156,7 +170,7 @@ printed_by _ = []
 abbrev pub IsDue : Option Folders → Option Files → List ℕ → Type 0
 IsDue None held text = text ≡ usage_line
 IsDue (Some folders) held text =
-    (name : List ℕ) × (text ≡ not_built_line name) × IfSome held (λ files. IsRefused folders.input files name)
+    (refusal : Refusal) × (text ≡ refusal_line refusal) × IfSome held (λ files. IsRefused folders.input files refusal)
 
 -- nothing was printed, or some first bytes of the text that is due
 abbrev pub PrintsPart : Option Folders → Option Files → Option (List ℕ) → Option (List ℕ) → Type 0

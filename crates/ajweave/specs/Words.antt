@@ -3,6 +3,11 @@ use Rattle.std.specs.Prelude.{ℕ, ◌==◌, ◌&&◌, not, if◌then◌else◌,
 use Rattle.std.specs.String.{string_bytes}
 use Rattle.std.specs.declared.alloc.Global.{Global}
 use Rattle.std.specs.Str.{bytes_eq}
+use Rattle.std.specs.Fmt.{decimal}
+use Rattle.class_format.specs.declared.fault.ClassFault.{ClassFault}
+use Rattle.class_format.specs.declared.fault.ClassFault.TheVariants as fault
+use Rattle.ajweave.specs.declared.status.Refusal.{Refusal}
+use Rattle.ajweave.specs.declared.status.Refusal.TheVariants as refusal
 
 -- the words, each as the bytes of its text
 abbrev pub texts : List (String Global) → List (List ℕ)
@@ -29,6 +34,31 @@ abbrev pub usage_line : List ℕ
 usage_line =
     codes "usage: ajweave weave IN OUT | check IN | shadows IN | run IN ENTRY STEPS [SCRIPT] | sample SEED CLASSES" ++ 10 ∷ []
 
--- the line of a refusal, with the file's name without its folder
-abbrev pub not_built_line : List ℕ → List ℕ
-not_built_line name = codes "refused: " ++ (name ++ (codes " not-built" ++ 10 ∷ []))
+-- ---- the line of a refusal
+
+-- the words of a class file's fault, whose numbers are decimal
+abbrev pub fault_words : ClassFault → List ℕ
+fault_words fault.Magic = codes "magic"
+fault_words (fault.Version major) = codes "version " ++ decimal major
+fault_words (fault.Truncated size) = codes "truncated " ++ decimal size
+fault_words (fault.Trailing offset) = codes "trailing " ++ decimal offset
+fault_words (fault.PoolTag index tag) = codes "pool-tag " ++ (decimal index ++ (codes " " ++ decimal tag))
+fault_words (fault.PoolRef index) = codes "pool-ref " ++ decimal index
+fault_words (fault.Utf8 index) = codes "utf8 " ++ decimal index
+fault_words (fault.AttributeLength offset) = codes "attribute-length " ++ decimal offset
+fault_words (fault.Code method pc) = codes "code " ++ (decimal method ++ (codes " " ++ decimal pc))
+-- no refusal's
+fault_words fault.Memory = codes "memory"
+
+-- a refused file, without its folder, and why
+abbrev pub refused_file : List ℕ → List ℕ → List ℕ
+refused_file name why = name ++ (codes " " ++ why)
+
+abbrev pub refusal_words : Refusal → List ℕ
+refusal_words refusal.ManyFiles = codes "many-files"
+refusal_words (refusal.BigFile name) = refused_file name (codes "big-file")
+refusal_words (refusal.Class name why) = refused_file name (fault_words why)
+refusal_words (refusal.NotBuilt name) = refused_file name (codes "not-built")
+
+abbrev pub refusal_line : Refusal → List ℕ
+refusal_line refusal = codes "refused: " ++ (refusal_words refusal ++ 10 ∷ [])

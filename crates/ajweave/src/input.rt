@@ -1,14 +1,15 @@
 //! Reading the input: the list of names, and then each file of a class or an aspect.
 ghost use Rattle.std.specs.Prelude.{◌≡◌, ◌↔◌, ◌<◌, ℕ, List, map, Option, Some, None, IfOk, IfSome, OnOk, IsSome, Err, true, ◌≤◌, ◌++◌, ◌∷◌, [], length, slice_get};
-ghost use Rattle.std.specs.List.{filter, All};
+ghost use Rattle.std.specs.List.{filter, find, All};
 ghost use Rattle.aj_outside.specs.Counts.{ComesWithRise, last_count};
-ghost use Rattle.aj_outside.specs.Files.{is_under, file_at};
-ghost use Rattle.jp_model.specs.Input.{is_input};
+ghost use Rattle.aj_outside.specs.Files.{is_under, file_at, names_under};
+ghost use Rattle.jp_model.specs.Input.{is_input, is_big};
 ghost use Rattle.weave_plan.specs.Plan.{files_of};
-ghost use Rattle.ajweave.specs.Answers.{in_folder, ReadFailed, most_names};
-ghost use Rattle.ajweave.specs.Steps.{OnStop, IsRefusal, IsReadStop, IsNoWriteStop, AreListed, IsOneTooMany, cut_at};
+ghost use Rattle.ajweave.specs.Answers.{ReadFailed, most_names};
+ghost use Rattle.ajweave.specs.Steps.{OnStop, IsRefusal, IsReadStop, IsNoWriteStop, AreListed, IsMany, IsBig, IsNamed, cut_at};
 
-use crate::stop::Stop;
+use crate::status::Refusal;
+use crate::stop::{Stop, name_within};
 use aj_outside::{Name, Shelf, ShelfFault};
 use std::alloc::Global;
 use weave_plan::NamedFile;
@@ -16,13 +17,13 @@ use weave_plan::NamedFile;
 /// How many names a folder may have.
 const MOST_NAMES: usize = 65_536;
 
-/// One byte more than a file may have, so that a longer one shows.
-const MOST_BYTES: u32 = 16_777_217;
+/// How many bytes a file may have.
+const MOST_BYTES: usize = 16_777_216;
 
 /// The names under a folder, in byte order, of which there may be at most 65,536.
 ///
 /// # Errors
-/// `Read` where the shelf fails, `NotBuilt` of the 65,537th name, and `Memory`.
+/// `Read` where the shelf fails, the refusal `ManyFiles` where there are more, and `Memory`.
 pub(crate) fn listed<S: Shelf>(
     alloc: Global,
     folder: &str,
@@ -30,26 +31,25 @@ pub(crate) fn listed<S: Shelf>(
 ) -> Result<Vec<Name>, Stop>
     ensures all { IfOk result (λ names. IfSome (S.held shelf.old) (λ files. AreListed folder.now files names.items)) }
     ensures under { IfOk result (λ names. All (λ name. is_under folder.now name ≡ true) names.items) }
-    ensures stopped { OnStop result (IsNoWriteStop (λ name. IfSome (S.held shelf.old) (λ files. IsOneTooMany folder.now files name))) }
+    ensures stopped { OnStop result (IsNoWriteStop (λ refusal. IfSome (S.held shelf.old) (λ files. IsMany (length (names_under folder.now files)) refusal))) }
     ensures failed { ComesWithRise (result ≡ Err Stop.Read) (S.faults shelf.old) (S.faults shelf.new) }
     ensures writes { S.write_faults shelf.new ≡ S.write_faults shelf.old }
     ensures reads { S.missing shelf.new ≡ S.missing shelf.old }
     ensures kept { S.held shelf.new ≡ S.held shelf.old }
 {
     match shelf.list(alloc, folder, MOST_NAMES as u32 + 1) {
-        Ok(names) => at_most(alloc, folder, names),
+        Ok(names) => at_most(names),
         Err(fault) => Err(Stop::reading(fault)),
     }
 }
 
 /// These names, of which there may be at most 65,536.
-fn at_most(alloc: Global, folder: &str, names: Vec<Name>) -> Result<Vec<Name>, Stop>
-    requires under { All (λ name. is_under folder.now name ≡ true) names.items }
+fn at_most(names: Vec<Name>) -> Result<Vec<Name>, Stop>
     ensures whole { IfOk result (λ listed. (listed.items ≡ names.items) × (length names.items ≤ most_names)) }
-    ensures stopped { OnStop result (IsRefusal (λ name. slice_get names.items most_names ≡ Some (in_folder folder.now name))) }
+    ensures stopped { OnStop result (IsRefusal (IsMany (length names.items))) }
 {
     if names.len() > MOST_NAMES {
-        return Err(Stop::not_built(alloc, folder, &names[MOST_NAMES]));
+        return Err(Stop::Refused(Refusal::ManyFiles));
     }
     Ok(names)
 }
@@ -97,16 +97,44 @@ fn read_input<S: Shelf>(alloc: Global, name: Name, shelf: &mut S) -> Result<Name
     ensures writes { S.write_faults shelf.new ≡ S.write_faults shelf.old }
     ensures kept { S.held shelf.new ≡ S.held shelf.old }
 {
-    match shelf.read(alloc, &name, MOST_BYTES) {
+    match shelf.read(alloc, &name, MOST_BYTES as u32 + 1) {
         Ok(bytes) => Ok(NamedFile { name, bytes }),
         Err(fault) => Err(Stop::reading(fault)),
+    }
+}
+
+/// That none of the files is too long.
+///
+/// # Errors
+/// The refusal `BigFile` of the first that is, and `Memory`.
+pub(crate) fn check_sizes(alloc: Global, folder: &str, files: &[NamedFile]) -> Result<(), Stop>
+    requires under { All (λ file. is_under folder.now file.name ≡ true) files.now }
+    ensures small { OnOk result (find is_big (files_of files.now) ≡ None) }
+    ensures stopped { OnStop result (IsRefusal (IsBig folder.now (files_of files.now))) }
+{
+    for file in files {
+        if file.bytes.len() > MOST_BYTES {
+            return Err(too_big(alloc, folder, &file.name));
+        }
+    }
+    Ok(())
+}
+
+/// The refusal of a file that is too long, by its whole name. It is `Memory` where that ran out.
+fn too_big(alloc: Global, folder: &str, name: &Name) -> Stop
+    requires under { is_under folder.now name.now ≡ true }
+    ensures refused { IsRefusal (IsNamed (λ rest. Refusal.BigFile rest) folder.now name.now) result }
+{
+    match name_within(alloc, folder, name) {
+        Ok(name) => Stop::Refused(Refusal::BigFile(name)),
+        Err(_) => Stop::Memory,
     }
 }
 
 /// Adds a file to the last ones.
 fn push_file(files: &mut Vec<NamedFile>, file: NamedFile) -> Result<(), Stop>
     ensures added { OnOk result (files.new.items ≡ files.old.items ++ file ∷ []) }
-    ensures stopped { OnStop result (IsRefusal (λ name. ⊥)) }
+    ensures stopped { OnStop result (IsRefusal (λ refusal. ⊥)) }
 {
     match files.push(file) {
         Ok(()) => Ok(()),

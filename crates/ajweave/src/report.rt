@@ -2,13 +2,15 @@
 ghost use Rattle.std.specs.Prelude.{◌≡◌, ◌≢◌, IfOk};
 ghost use Rattle.std.specs.String.{string_bytes};
 ghost use Rattle.aj_outside.specs.Counts.{ComesWithRise};
-ghost use Rattle.ajweave.specs.Words.{usage_line, not_built_line};
+ghost use Rattle.ajweave.specs.Words.{usage_line, refusal_line};
 ghost use Rattle.ajweave.specs.Steps.{PrintsFor, Reports};
 
 use crate::status::{Refusal, Status};
 use crate::stop::Stop;
-use aj_outside::{Name, Sink, SinkFault};
+use aj_outside::{Sink, SinkFault};
+use class_format::ClassFault;
 use std::alloc::{AllocError, Global};
+use std::fmt;
 
 const USAGE: &str =
     "usage: ajweave weave IN OUT | check IN | shadows IN | run IN ENTRY STEPS [SCRIPT] | sample SEED CLASSES\n";
@@ -31,21 +33,17 @@ pub(crate) fn report<O: Sink>(alloc: Global, ended: Result<(), Stop>, out: &mut 
         Err(Stop::Read) => Status::ReadFault,
         Err(Stop::Write) => Status::WriteFault,
         Err(Stop::Memory) => Status::OutOfMemory,
-        Err(Stop::NotBuilt(name)) => refuse(alloc, name, out),
+        Err(Stop::Refused(refusal)) => refuse(alloc, refusal, out),
     }
 }
 
 /// Prints the line of a refusal.
-fn refuse<O: Sink>(alloc: Global, name: Name, out: &mut O) -> Status
-    ensures printed { PrintsFor (Status.Refused (Refusal.NotBuilt name)) (not_built_line name) result (O.written out.old) (O.written out.new) }
+fn refuse<O: Sink>(alloc: Global, refusal: Refusal, out: &mut O) -> Status
+    ensures printed { PrintsFor (Status.Refused refusal) (refusal_line refusal) result (O.written out.old) (O.written out.new) }
     ensures failed { ComesWithRise (result ≡ Status.PrintFault) (O.faults out.old) (O.faults out.new) }
 {
-    match not_built_line(alloc, &name) {
-        Ok(line) => printed(
-            out,
-            line.as_bytes(),
-            Status::Refused(Refusal::NotBuilt(name)),
-        ),
+    match refusal_line(alloc, &refusal) {
+        Ok(line) => printed(out, line.as_bytes(), Status::Refused(refusal)),
         Err(_) => Status::OutOfMemory,
     }
 }
@@ -63,11 +61,61 @@ fn printed<O: Sink>(out: &mut O, text: &[u8], answer: Status) -> Status
     }
 }
 
-fn not_built_line(alloc: Global, name: &Name) -> Result<String, AllocError>
-    ensures { IfOk result (λ line. string_bytes line ≡ not_built_line name.now) }
+/// The line of a refusal.
+fn refusal_line(alloc: Global, refusal: &Refusal) -> Result<String, AllocError>
+    ensures { IfOk result (λ line. string_bytes line ≡ refusal_line refusal.now) }
 {
-    let mut line = String::from_str(alloc, "refused: ")?;
-    line.push_str(name.as_str())?;
-    line.push_str(" not-built\n")?;
-    Ok(line)
+    format!(in alloc; "refused: {refusal}\n")
+}
+
+impl fmt::Display for Refusal {
+    ghost use Rattle.std.specs.Prelude.{Some};
+    ghost use Rattle.ajweave.specs.Words.{refusal_words};
+
+    ghost output = { λ refusal. Some (refusal_words refusal) };
+
+    fn fmt<W: fmt::Write>(&self, f: &mut fmt::Formatter<W>) -> fmt::Result {
+        match self {
+            Refusal::ManyFiles => f.write_str("many-files"),
+            Refusal::BigFile(name) => {
+                let name = name.as_str();
+                write!(f, "{name} big-file")
+            }
+            Refusal::Class(name, fault) => {
+                let name = name.as_str();
+                let words = FaultWords(*fault);
+                write!(f, "{name} {words}")
+            }
+            Refusal::NotBuilt(name) => {
+                let name = name.as_str();
+                write!(f, "{name} not-built")
+            }
+        }
+    }
+}
+
+/// The fault of a class file, as a refusal's line names it.
+#[derive(Drop)]
+struct FaultWords(ClassFault);
+
+impl fmt::Display for FaultWords {
+    ghost use Rattle.std.specs.Prelude.{Some};
+    ghost use Rattle.ajweave.specs.Words.{fault_words};
+
+    ghost output = { λ words. Some (fault_words words.0) };
+
+    fn fmt<W: fmt::Write>(&self, f: &mut fmt::Formatter<W>) -> fmt::Result {
+        match self.0 {
+            ClassFault::Magic => f.write_str("magic"),
+            ClassFault::Version(major) => write!(f, "version {major}"),
+            ClassFault::Truncated(size) => write!(f, "truncated {size}"),
+            ClassFault::Trailing(offset) => write!(f, "trailing {offset}"),
+            ClassFault::PoolTag(index, tag) => write!(f, "pool-tag {index} {tag}"),
+            ClassFault::PoolRef(index) => write!(f, "pool-ref {index}"),
+            ClassFault::Utf8(index) => write!(f, "utf8 {index}"),
+            ClassFault::AttributeLength(offset) => write!(f, "attribute-length {offset}"),
+            ClassFault::Code(method, pc) => write!(f, "code {method} {pc}"),
+            ClassFault::Memory => f.write_str("memory"),
+        }
+    }
 }

@@ -1,9 +1,16 @@
 use aj_outside::Name;
+use class_format::ClassFault;
 
-/// The one thing that is wrong with the input.
+/// The one thing that is wrong with the input. A file is named without the folder IN.
 #[derive(Debug, Drop)]
 pub enum Refusal {
-    /// The file of this name, without its folder, is the first that is not of a form that is built.
+    /// More than 65,536 files are listed.
+    ManyFiles,
+    /// This file is the first that is longer than 16,777,216 bytes.
+    BigFile(Name),
+    /// This class file is the first that is none, with the first fault in it.
+    Class(Name, ClassFault),
+    /// This file is the first that is not of a form that is built.
     NotBuilt(Name),
 }
 

@@ -1,11 +1,12 @@
 //! Why a command stopped.
-ghost use Rattle.std.specs.Prelude.{◌≡◌, true};
+ghost use Rattle.std.specs.Prelude.{◌≡◌, IfOk, true};
 ghost use Rattle.aj_outside.specs.Files.{is_under};
 ghost use Rattle.ajweave.specs.Answers.{in_folder};
-ghost use Rattle.ajweave.specs.Steps.{IsRefusal, stop_of_read};
+ghost use Rattle.ajweave.specs.Steps.{stop_of_read};
 
+use crate::status::Refusal;
 use aj_outside::{Name, ShelfFault};
-use std::alloc::Global;
+use std::alloc::{AllocError, Global};
 
 /// Why a command stopped.
 #[derive(Debug, Drop)]
@@ -14,25 +15,13 @@ pub(crate) enum Stop {
     Read,
     /// The shelf failed to write.
     Write,
-    /// The file of this name, without its folder, isn't of a form that is built.
-    NotBuilt(Name),
+    /// The input is refused.
+    Refused(Refusal),
     /// Memory ran out.
     Memory,
 }
 
 impl Stop {
-    /// The refusal of a file of a folder, by its whole name. It is `Memory` where that ran out.
-    pub(crate) fn not_built(alloc: Global, folder: &str, name: &Name) -> Stop
-        requires under { is_under folder.now name.now ≡ true }
-        ensures refused { IsRefusal (λ rest. name.now ≡ in_folder folder.now rest) result }
-    {
-        let rest = name.strip_folder(folder).unwrap();
-        match Name::from_str(alloc, rest) {
-            Ok(name) => Stop::NotBuilt(name),
-            Err(_) => Stop::Memory,
-        }
-    }
-
     /// Why a command stopped whose shelf didn't list or read.
     pub(crate) fn reading(fault: ShelfFault) -> Stop
         ensures { result ≡ stop_of_read fault }
@@ -42,4 +31,13 @@ impl Stop {
             ShelfFault::Memory => Stop::Memory,
         }
     }
+}
+
+/// The name of a file of a folder without the folder.
+pub(crate) fn name_within(alloc: Global, folder: &str, name: &Name) -> Result<Name, AllocError>
+    requires under { is_under folder.now name.now ≡ true }
+    ensures rest { IfOk result (λ rest. name.now ≡ in_folder folder.now rest) }
+{
+    let rest = name.strip_folder(folder).unwrap();
+    Name::from_str(alloc, rest)
 }

@@ -1,11 +1,12 @@
-ghost use Rattle.std.specs.Prelude.{◌≡◌, ◌↔◌, ◌<◌, ℕ, List, Option, Some, None, ◌⊎◌};
+ghost use Rattle.std.specs.Prelude.{◌≡◌, ◌↔◌, ◌<◌, None, ◌⊎◌};
 ghost use Rattle.aj_outside.specs.Counts.{Rose, last_count};
+ghost use Rattle.ajweave.specs.declared.status.Refusal.{Refusal};
 ghost use Rattle.ajweave.specs.Words.{texts, command_of};
 ghost use Rattle.ajweave.specs.Answers.{ReadFailed, AnswersPrinted, AnswersRead, AnswersDone, IsRefused, IsValid, WritesWeaving, BehavesAsWritten, WritesExactly, WritesUntouched, WritesDeclared, OnTold, Commanded, CommandedTo, CommandedSome, KeepsShelf, Prints};
 
 use crate::command::command;
 use crate::report::{report, usage};
-use crate::status::{Refusal, Status};
+use crate::status::Status;
 use crate::weave::weave;
 use aj_outside::{Shelf, Sink};
 use std::alloc::Global;
@@ -40,8 +41,8 @@ pub fn weaver_main<S: Shelf, O: Sink>(
     ensures read_fault { (result ≡ Status.ReadFault) ↔ ReadFailed (S.held shelf.old) (S.faults shelf.old) (S.faults shelf.new) (S.missing shelf.old) (S.missing shelf.new) }
     ensures write_fault { (result ≡ Status.WriteFault) ↔ Rose (S.write_faults shelf.old) (S.write_faults shelf.new) }
     ensures print_fault { (result ≡ Status.PrintFault) ↔ Rose (O.faults out.old) (O.faults out.new) }
-    ensures refused { OnTold (command_of (texts words.now)) (S.held shelf.old) (λ folders files. (name : List ℕ) → IsRefused folders.input files name → AnswersRead (Status.Refused (Refusal.NotBuilt name)) result) }
-    ensures refused_only { (name : List ℕ) → result ≡ Status.Refused (Refusal.NotBuilt name) → Commanded (command_of (texts words.now)) (S.held shelf.old) (λ folders files. IsRefused folders.input files name) }
+    ensures refused { OnTold (command_of (texts words.now)) (S.held shelf.old) (λ folders files. (refusal : Refusal) → IsRefused folders.input files refusal → AnswersRead (Status.Refused refusal) result) }
+    ensures refused_only { (refusal : Refusal) → result ≡ Status.Refused refusal → Commanded (command_of (texts words.now)) (S.held shelf.old) (λ folders files. IsRefused folders.input files refusal) }
     ensures complete { OnTold (command_of (texts words.now)) (S.held shelf.old) (λ folders files. IsValid folders.input files → AnswersDone result) }
     ensures done_only { result ≡ Status.Done → Commanded (command_of (texts words.now)) (S.held shelf.old) (λ folders files. IsValid folders.input files) }
 

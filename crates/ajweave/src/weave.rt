@@ -5,13 +5,14 @@ ghost use Rattle.std.specs.List.{All};
 ghost use Rattle.std.specs.Option.{option_map};
 ghost use Rattle.aj_outside.specs.Counts.{ComesWithRise, last_count};
 ghost use Rattle.aj_outside.specs.Files.{is_under, put_each, put_file, OthersStay};
-ghost use Rattle.jp_model.specs.Input.{AllBuilt, IsNotBuilt};
+ghost use Rattle.weave_plan.specs.Faults.{AreTaken, AreRefused};
 ghost use Rattle.weave_plan.specs.Plan.{IsPlan, files_of};
-ghost use Rattle.ajweave.specs.Answers.{in_folder, ReadFailed};
-ghost use Rattle.ajweave.specs.Steps.{OnStop, IsRefusal, IsWriteStop, PutsSomeTold, Ends};
+ghost use Rattle.ajweave.specs.Answers.{ReadFailed};
+ghost use Rattle.ajweave.specs.Steps.{OnStop, IsRefusal, IsWriteStop, IsInputRefusal, PutsSomeTold, Ends};
 
-use crate::input::{listed, read_inputs};
-use crate::stop::Stop;
+use crate::input::{check_sizes, listed, read_inputs};
+use crate::status::Refusal;
+use crate::stop::{Stop, name_within};
 use aj_outside::{Shelf, ShelfFault};
 use std::alloc::Global;
 use weave_plan::{NamedFile, PlanFault, plan};
@@ -19,8 +20,7 @@ use weave_plan::{NamedFile, PlanFault, plan};
 /// Weaves the classes of a folder of the shelf and writes them to another.
 ///
 /// # Errors
-/// Why it stopped: a failed read or write, a file that is not of a form that is built, or want of
-/// memory. Nothing is written before all outputs are made.
+/// Why it stopped: a failed read or write, a refusal, or want of memory. Nothing is written before all outputs are made.
 pub(crate) fn weave<S: Shelf>(
     alloc: Global,
     input: &str,
@@ -35,6 +35,7 @@ pub(crate) fn weave<S: Shelf>(
 {
     let names = listed(alloc, input, shelf)?;
     let inputs = read_inputs(alloc, names, shelf)?;
+    check_sizes(alloc, input, inputs.as_slice())?;
     let outputs = planned(alloc, input, inputs.as_slice(), output)?;
     write_all(shelf, outputs.as_slice())
 }
@@ -48,13 +49,33 @@ fn planned(
 ) -> Result<Vec<NamedFile>, Stop>
     requires under { All (λ file. is_under input.now file.name ≡ true) inputs.now }
     ensures planned { IfOk result (λ outputs. IsPlan (files_of inputs.now) output.now (files_of outputs.items)) }
-    ensures built { OnOk result (AllBuilt (files_of inputs.now)) }
-    ensures stopped { OnStop result (IsRefusal (λ name. IsNotBuilt (files_of inputs.now) (in_folder input.now name))) }
+    ensures taken { OnOk result (AreTaken (files_of inputs.now)) }
+    ensures stopped { OnStop result (IsRefusal (IsInputRefusal input.now (files_of inputs.now))) }
 {
     match plan(alloc, inputs, output) {
         Ok(outputs) => Ok(outputs),
-        Err(PlanFault::Memory) => Err(Stop::Memory),
-        Err(PlanFault::NotBuilt(place)) => Err(Stop::not_built(alloc, input, &inputs[place].name)),
+        Err(fault) => Err(refused(alloc, input, inputs, fault)),
+    }
+}
+
+/// The refusal of these inputs. It is `Memory` where that ran out.
+fn refused(alloc: Global, folder: &str, inputs: &[NamedFile], fault: PlanFault) -> Stop
+    requires under { All (λ file. is_under folder.now file.name ≡ true) inputs.now }
+    requires refused { AreRefused (files_of inputs.now) fault }
+    ensures { IsRefusal (IsInputRefusal folder.now (files_of inputs.now)) result }
+{
+    match fault {
+        PlanFault::Memory => Stop::Memory,
+        PlanFault::Class(place, fault) => {
+            match name_within(alloc, folder, &inputs[place].name) {
+                Ok(name) => Stop::Refused(Refusal::Class(name, fault)),
+                Err(_) => Stop::Memory,
+            }
+        }
+        PlanFault::NotBuilt(place) => match name_within(alloc, folder, &inputs[place].name) {
+            Ok(name) => Stop::Refused(Refusal::NotBuilt(name)),
+            Err(_) => Stop::Memory,
+        },
     }
 }
 

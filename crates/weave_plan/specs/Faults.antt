@@ -5,7 +5,7 @@ use Rattle.std.specs.Result.{is_err}
 use Rattle.aj_outside.specs.Files.{Files}
 use Rattle.class_format.specs.declared.fault.ClassFault.{ClassFault}
 use Rattle.class_format.specs.Reading.{reading}
-use Rattle.jp_model.specs.Input.{is_class_file, AllBuilt, IsFirstNotBuilt}
+use Rattle.jp_model.specs.Input.{is_class_file, AllBuilt, IsFirstNotBuilt, IsNotBuilt}
 use Rattle.weave_plan.specs.declared.planning.PlanFault.{PlanFault}
 use Rattle.weave_plan.specs.declared.planning.PlanFault.TheVariants.{Class, NotBuilt, Memory}
 
@@ -18,6 +18,11 @@ pub record IsFirstFault (files : Files) (name : List ℕ) (fault : ClassFault) :
   pub bytes : List ℕ
   pub first : find is_faulty files ≡ Some (name, bytes)
   pub read : reading bytes ≡ Err fault
+
+-- each class file is one, and the file of this name is the first that isn't built
+pub record IsFirstUnbuilt (files : Files) (name : List ℕ) : Type 0 where
+  pub read : find is_faulty files ≡ None
+  pub first : IsNotBuilt files name
 
 -- each class file is one, and each file is built
 pub record AreTaken (files : Files) : Type 0 where
