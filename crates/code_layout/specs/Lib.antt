@@ -1,0 +1,4 @@
+pub mod Apart
+pub mod Blocks
+pub mod Places
+pub mod Layout
