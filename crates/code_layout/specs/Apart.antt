@@ -19,8 +19,8 @@ use Rattle.code_layout.specs.declared.method_code.LineTable.{LineTable}
 use Rattle.code_layout.specs.declared.method_code.Variable.{Variable}
 use Rattle.code_layout.specs.declared.method_code.VariableTable.{VariableTable}
 use Rattle.code_layout.specs.declared.method_code.MethodCode.{MethodCode}
-use Rattle.code_layout.specs.declared.taking.TakeApartFault.{TakeApartFault}
-use Rattle.code_layout.specs.declared.taking.TakeApartFault.TheVariants as faults
+use Rattle.code_layout.specs.declared.fault.TakeApartFault.{TakeApartFault}
+use Rattle.code_layout.specs.declared.fault.TakeApartFault.TheVariants as faults
 
 -- ---- instructions
 

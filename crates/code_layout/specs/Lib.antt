@@ -1,4 +1,5 @@
 pub mod Apart
+pub mod Numbers
 pub mod Blocks
 pub mod Places
 pub mod Layout

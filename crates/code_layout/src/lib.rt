@@ -3,11 +3,19 @@
 #![tactic(auto)]
 
 mod block;
+mod fault;
+mod jumps;
 mod laying;
 mod method_code;
+mod tables;
 mod taking;
+mod walk;
 
 pub use block::{Block, BlockEntry, BlockTarget};
+pub use fault::TakeApartFault;
 pub use laying::{LayoutFault, lay_out};
 pub use method_code::{CodeEntry, Jump, Line, LineTable, MethodCode, Variable, VariableTable};
-pub use taking::{TakeApartFault, take_apart};
+pub use taking::take_apart;
+
+#[cfg(test)]
+mod tests;

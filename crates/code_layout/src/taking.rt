@@ -1,46 +1,26 @@
 //! Code taken apart.
 
-ghost use Rattle.std.specs.Prelude.{◌≡◌, ◌<◌, ◌^◌, length, IfOk, IfErr, None, List, ℕ};
+ghost use Rattle.std.specs.Prelude.{◌≡◌, ◌<◌, ◌^◌, length, map, IfOk, IfErr, None, List, ℕ};
 ghost use Rattle.class_file.specs.Code.{code_fault};
 ghost use Rattle.class_file.specs.declared.pool.PoolEntry.{PoolEntry};
+ghost use Rattle.code_layout.specs.declared.walk.Step.{Step};
 ghost use Rattle.code_layout.specs.Apart.{apart, Gives};
-ghost use Rattle.code_layout.specs.declared.taking.TakeApartFault.TheVariants as faults;
 
+use crate::fault::TakeApartFault;
+use crate::jumps::jumps;
 use crate::method_code::MethodCode;
+use crate::tables::{entries, line_tables, variable_tables};
+use crate::walk::{Step, walk_code};
 use class_file::CodeAttr;
-use opcode_table::CodeFault;
-use std::alloc::{AllocError, AllocFailed, Global};
-use thiserror::Error;
+use opcode_table::Insn;
+use sqlite_items::Items;
+use std::alloc::{AllocError, Global};
 
-/// Why code is not taken apart.
-#[derive(Clone, Copy, Debug, PartialEq, Eq, Error)]
-pub enum TakeApartFault {
-    /// No instruction stands at a place where the one before ends.
-    #[error("{0}")]
-    Code(CodeFault),
-    /// The branch or switch at this place leads to where no instruction begins, or an entry of the
-    /// exception table names this place and no instruction begins there (JVMS 4.7.3, 4.8.1).
-    #[error("no instruction begins where {0} says")]
-    Target(u32),
-    /// There was not enough memory.
-    #[error("out of memory")]
-    Memory,
-}
-
-impl From<AllocError> for TakeApartFault {
-    ghost from_gives = { λ _ fault. fault ≡ faults.Memory };
-
-    fn from(_: AllocError) -> TakeApartFault {
-        TakeApartFault::Memory
-    }
-}
-
-impl<T: Drop> From<AllocFailed<T>> for TakeApartFault {
-    ghost from_gives = { λ _ fault. fault ≡ faults.Memory };
-
-    fn from(_: AllocFailed<T>) -> TakeApartFault {
-        TakeApartFault::Memory
-    }
+/// The instructions of the steps.
+fn insns(alloc: Global, steps: &[Step]) -> Result<Vec<Insn>, AllocError>
+    ensures { IfOk result (λ insns. insns.items ≡ map (λ (s : Step). s.insn) steps.now) }
+{
+    steps.iter().map(|step| step.insn).collect(alloc)
 }
 
 /// The code by instruction numbers: each instruction, and each target, range, line and local variable
@@ -58,7 +38,20 @@ pub fn take_apart(alloc: Global, code: &CodeAttr) -> Result<MethodCode, TakeApar
     // Code that may stand in some class is refused for want of memory alone.
     ensures taken { (major : ℕ) (pool : List PoolEntry) → code_fault major pool code.now ≡ None → IfErr result (λ fault. fault ≡ TakeApartFault.Memory) }
 {
-    let _ = alloc;
-    let _ = code;
-    Err(TakeApartFault::Memory)
+    let bytes = code.code.as_slice();
+    let found = walk_code(alloc, bytes)?;
+    let numbers = found.numbers.as_slice();
+    let count = found.steps.len() as u32;
+    let targets = jumps(alloc, bytes, numbers, found.steps.as_slice())?;
+    let entries = entries(alloc, numbers, count, code.entries.as_slice())?;
+    let attributes = code.attributes.as_slice();
+    Ok(MethodCode {
+        insns: Items::from_vec(insns(alloc, found.steps.as_slice())?),
+        targets,
+        entries,
+        lines: line_tables(alloc, numbers, attributes)?,
+        variables: variable_tables(alloc, numbers, count, attributes)?,
+        max_stack: code.max_stack,
+        max_locals: code.max_locals,
+    })
 }

@@ -1,0 +1,4 @@
+pub mod Numbered
+pub mod Filtered
+pub mod Zips
+pub mod Faults
