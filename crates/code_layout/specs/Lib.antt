@@ -1,4 +1,5 @@
 pub mod Apart
+pub mod Taken
 pub mod Numbers
 pub mod Blocks
 pub mod Places

@@ -1,9 +1,10 @@
 -- A table with the number of the instruction that begins at each place, and what is found by it.
-use Rattle.std.specs.Prelude.{◌≡◌, ℕ, ◌+◌, ◌-◌, ◌==◌, Bool, true, false, if◌then◌else◌, List, [], ◌∷◌, ◌++◌, length, map, slice_get, Option, Some, None, Result, Ok, Err, ℤ, pos, negsuc, ◌+ℤ◌}
+use Rattle.std.specs.Prelude.{◌≡◌, ℕ, ◌+◌, ◌-◌, ◌<◌, ◌≤◌, ◌==◌, Bool, true, false, if◌then◌else◌, List, [], ◌∷◌, ◌++◌, length, map, slice_get, Option, Some, None, Result, Ok, Err, ℤ, pos, negsuc, ◌+ℤ◌}
 use Rattle.std.specs.Option.{option_map}
-use Rattle.std.specs.List.{filter_map, AllZip, Any}
+use Rattle.std.specs.List.{filter_map, AllZip, AllByRecursion, Any}
 use Rattle.opcode_table.specs.declared.fault.CodeFault.{CodeFault}
 use Rattle.opcode_table.specs.Table.{joined}
+use Rattle.opcode_table.specs.Spelling.{HasSwitch}
 use Rattle.class_file.specs.declared.types.ExceptionEntry.{ExceptionEntry}
 use Rattle.class_file.specs.declared.types.LineRow.{LineRow}
 use Rattle.class_file.specs.declared.types.VariableRow.{VariableRow}
@@ -35,15 +36,18 @@ start_number insns place = if is_start insns place then Some (number_of insns pl
 abbrev pub start_by : List (Option ℕ) → ℕ → Option ℕ
 start_by numbers place = joined (slice_get numbers place)
 
--- the table has the number of each instruction at its place, and a row for each byte of the code
+-- the table has the number of each instruction at its place, a row for each byte of the code, and the instructions are in the code
 pub record AreNumbers (insns : List Placed) (code : List ℕ) (numbers : List (Option ℕ)) : Type 0 where
   pub each : (place : ℕ) → start_by numbers place ≡ start_number insns place
   pub rows : length numbers ≡ length code
+  pub within : AllByRecursion (λ (p : Placed). p.pc < length code) insns
 
--- the code's instructions, and the table of their numbers
+-- the code's instructions, with their tables where they are switches, and the table of their numbers
 pub record AreSteps (code : List ℕ) (steps : List Step) (numbers : List (Option ℕ)) : Type 0 where
   pub insns : instructions code ≡ Ok (map placed_of steps)
   pub table : AreNumbers (map placed_of steps) code numbers
+  pub switches : AllByRecursion (λ (s : Step). HasSwitch code s.insn) steps
+  pub few : length steps ≤ length code
 
 -- the fault is of this kind, or memory ran out
 abbrev pub FaultIs : (CodeFault → Type 0) → (ℕ → Type 0) → TakeApartFault → Type 0

@@ -2,7 +2,7 @@
 
 ghost use Rattle.std.specs.Prelude.{◌≡◌, ◌<◌, ◌^◌, length, pos, ◌+ℤ◌, FitsSigned, IfOk, IfErr};
 ghost use Rattle.std.specs.Int.{w32};
-ghost use Rattle.std.specs.List.{AllZip, All, Any};
+ghost use Rattle.std.specs.List.{AllZip, AllByRecursion, Any};
 ghost use Rattle.opcode_table.specs.Spelling.{HasSwitch, HasTable, HasPairs};
 ghost use Rattle.class_file.specs.Code.{offsets};
 ghost use Rattle.opcode_table.specs.declared.insn.Insn.{Insn};
@@ -40,12 +40,12 @@ fn pair_offsets(alloc: Global, code: &[u8], table: u32) -> Result<Vec<i32>, Allo
     requires { HasPairs code.now table }
     ensures { IfOk result (λ v. v.items ≡ offsets code.now (Insn.LookupSwitch table)) }
 {
-    let mut offsets = Vec::new(alloc);
-    offsets.push(switch_default(code, table))?;
+    let mut distances = Vec::new(alloc);
+    distances.push(switch_default(code, table))?;
     for i in 0..pair_count(code, table) {
-        offsets.push(pair_offset(code, table, i))?;
+        distances.push(pair_offset(code, table, i))?;
     }
-    Ok(offsets)
+    Ok(distances)
 }
 
 /// The distances from an instruction to where it may lead.
@@ -179,7 +179,7 @@ pub(crate) fn jumps(
     steps: &[Step],
 ) -> Result<Items<Jump<u32>>, TakeApartFault>
     requires small { length code.now < 2 ^ 16 }
-    requires there { All (λ (step : Step). HasSwitch code.now step.insn) steps.now }
+    requires there { AllByRecursion (λ (step : Step). HasSwitch code.now step.insn) steps.now }
     ensures found { IfOk result (λ all. AllZip (IsJump code.now numbers.now) steps.now all) }
     ensures fault { IfErr result (FaultIs (λ _. ⊥) (FirstAstray code.now numbers.now steps.now)) }
 {

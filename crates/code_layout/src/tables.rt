@@ -86,11 +86,7 @@ fn line(numbers: &[Option<u32>], row: &LineRow) -> Option<Line>
 }
 
 /// The rows of a LineNumberTable that begin where an instruction does.
-fn lines(
-    alloc: Global,
-    numbers: &[Option<u32>],
-    rows: &[LineRow],
-) -> Result<Vec<Line>, AllocError>
+fn lines(alloc: Global, numbers: &[Option<u32>], rows: &[LineRow]) -> Result<Vec<Line>, AllocError>
     ensures { IfOk result (λ lines. lines.items ≡ filter_map (line_by numbers.now) rows.now) }
 {
     rows.iter()
