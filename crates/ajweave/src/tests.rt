@@ -85,7 +85,7 @@ fn refuses_the_first_file(rt: HostRuntime) -> Result<(), Fail> {
     assert_eq!(rt; run.files, 3);
     assert_eq!(rt;
         run.printed.as_slice(),
-        b"refused: C.class not-built\n".as_slice()
+        b"refused: C.class magic\n".as_slice()
     );
     let run = run_on(rt.alloc(), &WEAVE, &names, &[], &[1])?;
     assert_eq!(rt; run.status, 5);

@@ -1,6 +1,10 @@
 //! Class files as bytes, and the bytes of what is woven from them, made by a program of its own that knows
 //! only the format and the rule: a call of the advice's method stands before each matching call.
 
+/// The aspect whose advice prints a before each call of C's m.
+pub(crate) const ASPECT: &[u8] =
+    b"aspect T {\n\tbefore(): call(void C.m()) {\n    System.out.println(\"a\");\n  }\n}\n";
+
 /// Class C with `m`, which prints m, and `main`, which calls m.
 pub(crate) const C: [u8; 286] = [
     202, 254, 186, 190, 0, 0, 0, 48, 0, 24, 1, 0, 1, 67, 7, 0, 1, 1, 0, 16, 106, 97, 118, 97, 47,

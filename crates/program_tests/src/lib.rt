@@ -4,6 +4,10 @@
 #[cfg(test)]
 mod classes;
 #[cfg(test)]
+mod refusals;
+#[cfg(test)]
+mod runs;
+#[cfg(test)]
 mod tests;
 #[cfg(test)]
 mod units;

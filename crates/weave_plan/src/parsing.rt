@@ -2,7 +2,8 @@
 
 ghost use Rattle.std.specs.Prelude.{◌≡◌, IfOk, IfErr, OnOk, None};
 ghost use Rattle.std.specs.List.{AllZip, find};
-ghost use Rattle.class_format.specs.Reading.{Fails, reading};
+ghost use Rattle.class_format.specs.Gives.{Fails};
+ghost use Rattle.class_format.specs.Reading.{reading};
 ghost use Rattle.jp_model.specs.Input as input;
 ghost use Rattle.weave_plan.specs.Faults.{is_faulty, AreRefused};
 ghost use Rattle.weave_plan.specs.Plan.{files_of};

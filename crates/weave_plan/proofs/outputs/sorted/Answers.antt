@@ -15,4 +15,4 @@ loop-class-preserved c =
     put_more c.args.folder.now c.args.classes.now c.loop-class.class-index c.class-item.result files (seen (λ v. v.items) c.insert.new.self.entries) c.loop-class-test.true c.class-item.is c.loop-class.invariant
     (ap (seen (λ v. v.items)) c.in_ok-insert.ensures.entries ∙ inserted (λ v. v.items) c.loop-class.files.entries c.in_ok-name.name c.in_ok-write_class.field-0
     ∙ ap (λ (n : List ℕ). put_file files n c.in_ok-write_class.field-0.items) c.in_ok-name.ensures
-    ∙ ap (put_file files (output_name c.args.folder.now c.class-item.result)) c.in_ok-write_class.ensures)
+    ∙ ap (put_file files (output_name c.args.folder.now c.class-item.result)) c.in_ok-write_class.ensures.spelled)

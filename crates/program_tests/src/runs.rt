@@ -1,0 +1,83 @@
+//! Runs of the whole program over a shelf and a sink in memory.
+
+use aj_outside::{MemShelf, MemSink, Name};
+use ajweave::weaver_main;
+use std::alloc::{AllocError, Global};
+
+/// What a command leaves.
+#[derive(Drop)]
+pub(crate) struct Outcome {
+    pub(crate) status: u8,
+    pub(crate) shelf: MemShelf,
+    pub(crate) printed: MemSink,
+}
+
+fn words(alloc: Global, texts: &[&str]) -> Result<Vec<String>, AllocError> {
+    let mut words = Vec::new(alloc);
+    for text in texts {
+        words.push(String::from_str(alloc, text)?)?;
+    }
+    Ok(words)
+}
+
+fn files(alloc: Global, named: &[(&str, &[u8])]) -> Result<Vec<(Name, Vec<u8>)>, AllocError> {
+    let mut files = Vec::new(alloc);
+    for (name, bytes) in named {
+        files.push((Name::from_str(alloc, name)?, Vec::from_slice(alloc, bytes)?))?;
+    }
+    Ok(files)
+}
+
+/// Runs the words over these files; the calls of the shelf and of the sink with these numbers fail.
+pub(crate) fn run(
+    alloc: Global,
+    texts: &[&str],
+    named: &[(&str, &[u8])],
+    failing: &[u64],
+    unprinted: &[u64],
+) -> Result<Outcome, AllocError> {
+    let words = words(alloc, texts)?;
+    let files = files(alloc, named)?;
+    let shelf = MemShelf::new(files, Vec::from_slice(alloc, failing)?)?;
+    let printed = MemSink::new(Vec::from_slice(alloc, unprinted)?);
+    Ok(run_on(alloc, words.as_slice(), shelf, printed))
+}
+
+/// Runs the words over a shelf and a sink.
+fn run_on(alloc: Global, words: &[String], mut shelf: MemShelf, mut printed: MemSink) -> Outcome {
+    let status = weaver_main(alloc, words, &mut shelf, &mut printed).code();
+    Outcome {
+        status,
+        shelf,
+        printed,
+    }
+}
+
+/// Weaves these files of the folder `in` to the folder `out`.
+pub(crate) fn weave(alloc: Global, named: &[(&str, &[u8])]) -> Result<Outcome, AllocError> {
+    run(alloc, &["weave", "in", "out"], named, &[], &[])
+}
+
+/// Weaves files that are told by their whole names.
+pub(crate) fn weave_files(
+    alloc: Global,
+    files: Vec<(Name, Vec<u8>)>,
+) -> Result<Outcome, AllocError> {
+    let words = words(alloc, &["weave", "in", "out"])?;
+    let shelf = MemShelf::new(files, Vec::new(alloc))?;
+    let printed = MemSink::new(Vec::new(alloc));
+    Ok(run_on(alloc, words.as_slice(), shelf, printed))
+}
+
+/// Whether the run was refused with this line, and left the shelf with so many files.
+pub(crate) fn is_refused(left: &Outcome, line: &str, files: usize) -> bool {
+    left.status == 1 && left.printed.bytes() == line.as_bytes() && left.shelf.len() == files
+}
+
+/// Whether the shelf has exactly these bytes under the name.
+pub(crate) fn holds(left: &Outcome, name: &str, bytes: &[u8]) -> bool {
+    match left.shelf.file(name) {
+        None => false,
+        Some(found) => found == bytes,
+    }
+}
