@@ -1,6 +1,3 @@
 pub mod Apart
 pub mod Taken
 pub mod Numbers
-pub mod Blocks
-pub mod Places
-pub mod Layout
