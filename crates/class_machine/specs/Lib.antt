@@ -6,3 +6,9 @@ pub mod Events
 pub mod Rules
 pub mod Classes
 pub mod World
+pub mod Operations
+pub mod Effect
+pub mod Answers
+pub mod Texts
+pub mod Library
+pub mod LibraryCalls
