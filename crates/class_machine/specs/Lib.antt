@@ -12,3 +12,7 @@ pub mod Answers
 pub mod Texts
 pub mod Library
 pub mod LibraryCalls
+pub mod Natives
+pub mod Turn
+pub mod Machine
+pub mod Start

@@ -1,7 +1,7 @@
 -- What a call of a library method does. It is one step, except that a call of toString or getMessage within it that
 -- selects a method of a class outside the library pushes the frame of that method, and the library call ends as it
 -- returns.
-use Rattle.std.specs.Prelude.{ℕ, zero, suc, ◌+◌, ◌-◌, ◌*◌, ◌/◌, ◌^◌, ◌==◌, ◌&&◌, Bool, true, false, if◌then◌else◌, List, [], ◌∷◌, ◌++◌, length, take, drop, codes, slice_get, nat_le, bit_xor, Option, Some, None, ℤ, pos, negsuc}
+use Rattle.std.specs.Prelude.{ℕ, zero, suc, ◌+◌, ◌-◌, ◌*◌, ◌/◌, ◌%◌, ◌^◌, ◌==◌, ◌&&◌, Bool, true, false, if◌then◌else◌, List, [], ◌∷◌, ◌++◌, length, take, drop, codes, slice_get, nat_le, bit_xor, Option, Some, None, ℤ, pos, negsuc}
 use Rattle.std.specs.Option.{unwrap_or}
 use Rattle.std.specs.Str.{bytes_eq}
 use Rattle.std.specs.Int.{w32, w64, cast_signed, cast_unsigned}
@@ -111,9 +111,8 @@ abbrev pub finish_text : Wait → Option Name → Option (List ℕ) → World �
 finish_text (Prints line) a units w = printed (text_or_null units) line w
 finish_text (Appends buffer) a units w = appended (text_or_null units) buffer w
 finish_text Gives a units w = gives (held_reference a) w
-finish_text (Describes x rest) a units w = go_on (described x units) (add_text w (described x units)) where
-  go_on : List ℕ → Name × World → Work
-  go_on text made = finish_text rest (Some made.0) (Some text) made.1
+finish_text (Describes x rest) a units w =
+    let made = add_text w (described x units) in finish_text rest (Some made.0) (Some (described x units)) made.1
 
 -- a method of the library or of a program gave the text
 abbrev pub resume : Wait → Held → World → Work
