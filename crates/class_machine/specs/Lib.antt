@@ -16,3 +16,5 @@ pub mod Natives
 pub mod Turn
 pub mod Machine
 pub mod Start
+pub mod Declarations
+pub mod ClassFiles
