@@ -59,27 +59,27 @@ pub record Searches : Type 0 where
 abbrev pub class_named : List DeclaredClass → List ℕ → Option DeclaredClass
 class_named classes name = find (λ c. bytes_eq c.name name) classes
 
-abbrev is_class : (DeclaredClass → Bool) → Option DeclaredClass → Bool
+abbrev pub is_class : (DeclaredClass → Bool) → Option DeclaredClass → Bool
 is_class test None = false
 is_class test (Some c) = test c
 
-abbrev in_class : List ℕ → NamedType → Reference
+abbrev pub in_class : List ℕ → NamedType → Reference
 in_class class member = record { class = class; member = member }
 
-abbrev field_found : List ℕ → DeclaredField → Field
+abbrev pub field_found : List ℕ → DeclaredField → Field
 field_found class field = record { name = in_class class field.member; is_static = field.is_static }
 
-abbrev method_found : List ℕ → DeclaredMethod → Method
+abbrev pub method_found : List ℕ → DeclaredMethod → Method
 method_found class m =
     record { name = in_class class m.member; is_static = m.is_static; is_private = m.is_private; is_synchronized = m.is_synchronized; is_native = m.is_native; rule = m.rule }
 
-abbrev declared_field : DeclaredClass → NamedType → Option DeclaredField
+abbrev pub declared_field : DeclaredClass → NamedType → Option DeclaredField
 declared_field c member = find (λ field. same_type field.member member) c.fields
 
-abbrev declared_method : DeclaredClass → NamedType → Option DeclaredMethod
+abbrev pub declared_method : DeclaredClass → NamedType → Option DeclaredMethod
 declared_method c member = find (λ m. same_type m.member member) c.methods
 
-abbrev field_in : List DeclaredClass → NamedType → List ℕ → Option Field
+abbrev pub field_in : List DeclaredClass → NamedType → List ℕ → Option Field
 field_in classes member class =
     option_map (field_found class) (option_and_then (λ c. declared_field c member) (class_named classes class))
 
@@ -89,41 +89,41 @@ method_in classes member class =
 
 -- ---- fields of objects
 
-abbrev box_types : List Element
+abbrev pub box_types : List Element
 box_types = Element.Boolean ∷ Element.Byte ∷ Element.Char ∷ Element.Short ∷ Element.Int ∷ Element.Long ∷ Element.Float ∷ Element.Double ∷ []
 
 -- what the library keeps in objects of its own: no code can name it
-abbrev hidden_fields : List ℕ → List Reference
+abbrev pub hidden_fields : List ℕ → List Reference
 hidden_fields class =
     if bytes_eq class throwable_class then message_field ∷ cause_field ∷ []
     else map value_field (filter (λ type. bytes_eq (box_class type) class) box_types)
 
-abbrev own_fields : DeclaredClass → List Reference
+abbrev pub own_fields : DeclaredClass → List Reference
 own_fields c = map (λ field. in_class c.name field.member) (filter (λ field. not field.is_static) c.fields)
 
-abbrev fields_of : Option DeclaredClass → List Reference
+abbrev pub fields_of : Option DeclaredClass → List Reference
 fields_of None = []
 fields_of (Some c) = own_fields c
 
 -- ---- static fields
 
-abbrev initial_value : Reference → Option DeclaredField → Held
+abbrev pub initial_value : Reference → Option DeclaredField → Held
 initial_value r None = blank (element_of r.member.descriptor)
 initial_value r (Some field) = unwrap_or field.constant (blank (element_of r.member.descriptor))
 
 -- ---- array types
 
-abbrev is_base_letter : ℕ → Bool
+abbrev pub is_base_letter : ℕ → Bool
 is_base_letter b = is_some (find (nat_eq b) (codes "ZBCSIJFD"))
 
-abbrev dimensions : List ℕ → ℕ
+abbrev pub dimensions : List ℕ → ℕ
 dimensions type = prefix_len (nat_eq 91) type
 
-abbrev is_whole_name : (List ℕ → Bool) → List ℕ → List ℕ → Bool
+abbrev pub is_whole_name : (List ℕ → Bool) → List ℕ → List ℕ → Bool
 is_whole_name known bytes name = bytes_eq bytes (name ++ 59 ∷ []) && known name
 
 -- the descriptor of a type, whose class is known if it has one
-abbrev is_known_type : (List ℕ → Bool) → List ℕ → Bool
+abbrev pub is_known_type : (List ℕ → Bool) → List ℕ → Bool
 is_known_type known [] = false
 is_known_type known (b ∷ bytes) =
     if b == 91 then is_known_type known bytes
@@ -132,22 +132,22 @@ is_known_type known (b ∷ bytes) =
 -- ---- all that the machine asks
 
 module _ (searches : Searches) (classes : List DeclaredClass) where
-  abbrev is_declared : List ℕ → Bool
+  abbrev pub is_declared : List ℕ → Bool
   is_declared class = is_some (class_named classes class)
 
-  abbrev knows : List ℕ → Bool
+  abbrev pub knows : List ℕ → Bool
   knows class = if is_array class then is_known_type is_declared class && nat_le (dimensions class) 255 else is_declared class
 
-  abbrev in_superclass : List ℕ → List Reference
+  abbrev pub in_superclass : List ℕ → List Reference
   in_superclass class = fields_of (class_named classes class) ++ hidden_fields class
 
-  abbrev clinit : NamedType
+  abbrev pub clinit : NamedType
   clinit = record { name = codes "<clinit>"; descriptor = codes "()V" }
 
-  abbrev if_static : Method → Option Method
+  abbrev pub if_static : Method → Option Method
   if_static m = if m.is_static then Some m else None
 
-  abbrev initial_in : Reference → Option DeclaredClass → Held
+  abbrev pub initial_in : Reference → Option DeclaredClass → Held
   initial_in r None = initial_value r None
   initial_in r (Some c) = initial_value r (declared_field c r.member)
 
@@ -169,10 +169,10 @@ module _ (searches : Searches) (classes : List DeclaredClass) where
 
 -- ---- the classes of the library
 
-abbrev library_field : List ℕ × List ℕ → DeclaredField
+abbrev pub library_field : List ℕ × List ℕ → DeclaredField
 library_field field = record { member = record { name = field.0; descriptor = field.1 }; is_static = true; constant = Some (Pointer output) }
 
-abbrev library_method : LibraryMethod → DeclaredMethod
+abbrev pub library_method : LibraryMethod → DeclaredMethod
 library_method m =
     record { member = record { name = m.name; descriptor = m.descriptor }; is_static = m.is_static; is_private = false; is_synchronized = false; is_native = is_none m.rule; rule = m.rule }
 

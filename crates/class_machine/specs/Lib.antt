@@ -18,3 +18,6 @@ pub mod Machine
 pub mod Start
 pub mod Declarations
 pub mod ClassFiles
+pub mod Searches
+pub mod Listed
+pub mod Examples

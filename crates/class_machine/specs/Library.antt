@@ -25,37 +25,37 @@ pub record LibraryClass : Type 0 where
   pub fields : List (List ℕ × List ℕ)
   pub methods : List LibraryMethod
 
-abbrev instance : List ℕ → List ℕ → Rule → LibraryMethod
+abbrev pub instance : List ℕ → List ℕ → Rule → LibraryMethod
 instance name descriptor r = record { name = name; descriptor = descriptor; is_static = false; rule = Some r }
 
-abbrev static : List ℕ → List ℕ → Rule → LibraryMethod
+abbrev pub static : List ℕ → List ℕ → Rule → LibraryMethod
 static name descriptor r = record { name = name; descriptor = descriptor; is_static = true; rule = Some r }
 
-abbrev native : List ℕ → List ℕ → LibraryMethod
+abbrev pub native : List ℕ → List ℕ → LibraryMethod
 native name descriptor = record { name = name; descriptor = descriptor; is_static = true; rule = None }
 
-abbrev class : List ℕ → Bool → List LibraryMethod → LibraryClass
+abbrev pub class : List ℕ → Bool → List LibraryMethod → LibraryClass
 class name final methods = record { name = name; super_class = Some object_class; is_interface = false; is_final = final; fields = []; methods = methods }
 
-abbrev interface : List ℕ → LibraryClass
+abbrev pub interface : List ℕ → LibraryClass
 interface name = record { name = name; super_class = Some object_class; is_interface = true; is_final = false; fields = []; methods = [] }
 
-abbrev constructor : List ℕ
+abbrev pub constructor : List ℕ
 constructor = codes "<init>"
 
 
-abbrev to_string_of : Rule → LibraryMethod
+abbrev pub to_string_of : Rule → LibraryMethod
 to_string_of r = instance (codes "toString") (codes "()Ljava/lang/String;") r
 
-abbrev equals_of : Rule → LibraryMethod
+abbrev pub equals_of : Rule → LibraryMethod
 equals_of r = instance (codes "equals") (codes "(Ljava/lang/Object;)Z") r
 
-abbrev hash_of : Rule → LibraryMethod
+abbrev pub hash_of : Rule → LibraryMethod
 hash_of r = instance (codes "hashCode") (codes "()I") r
 
 -- ---- the classes that all programs have
 
-abbrev object_methods : List LibraryMethod
+abbrev pub object_methods : List LibraryMethod
 object_methods =
     instance constructor (codes "()V") rule.DoNothing ∷
     equals_of rule.SameObject ∷
@@ -64,19 +64,19 @@ object_methods =
     instance (codes "getClass") (codes "()Ljava/lang/Class;") rule.GetClass ∷
     []
 
-abbrev object_row : LibraryClass
+abbrev pub object_row : LibraryClass
 object_row = record { name = object_class; super_class = None; is_interface = false; is_final = false; fields = []; methods = object_methods }
 
-abbrev class_methods : List LibraryMethod
+abbrev pub class_methods : List LibraryMethod
 class_methods =
     instance (codes "getName") (codes "()Ljava/lang/String;") rule.ClassName ∷
     static (codes "forName") (codes "(Ljava/lang/String;)Ljava/lang/Class;") rule.ForName ∷
     []
 
-abbrev value_of : List ℕ → Spelling → LibraryMethod
+abbrev pub value_of : List ℕ → Spelling → LibraryMethod
 value_of parameters how = static (codes "valueOf") (parameters ++ codes "Ljava/lang/String;") (rule.ValueOf how)
 
-abbrev string_methods : List LibraryMethod
+abbrev pub string_methods : List LibraryMethod
 string_methods =
     instance (codes "length") (codes "()I") rule.Length ∷
     instance (codes "charAt") (codes "(I)C") rule.CharAt ∷
@@ -94,10 +94,10 @@ string_methods =
 
 -- ---- StringBuffer and StringBuilder
 
-abbrev append : List ℕ → List ℕ → Spelling → LibraryMethod
+abbrev pub append : List ℕ → List ℕ → Spelling → LibraryMethod
 append own parameters how = instance (codes "append") (parameters ++ 76 ∷ own ++ 59 ∷ []) (rule.Append how)
 
-abbrev buffer_methods : List ℕ → List LibraryMethod
+abbrev pub buffer_methods : List ℕ → List LibraryMethod
 buffer_methods own =
     instance constructor (codes "()V") rule.DoNothing ∷
     instance constructor (codes "(Ljava/lang/String;)V") rule.FillBuffer ∷
@@ -111,19 +111,19 @@ buffer_methods own =
     to_string_of rule.Copy ∷
     []
 
-abbrev buffer : List ℕ → LibraryClass
+abbrev pub buffer : List ℕ → LibraryClass
 buffer name = class name true (buffer_methods name)
 
 -- ---- exceptions
 
-abbrev throwable_constructors : List LibraryMethod
+abbrev pub throwable_constructors : List LibraryMethod
 throwable_constructors =
     instance constructor (codes "()V") rule.DoNothing ∷
     instance constructor (codes "(Ljava/lang/String;)V") rule.SetMessage ∷
     instance constructor (codes "(Ljava/lang/String;Ljava/lang/Throwable;)V") rule.SetMessageAndCause ∷
     []
 
-abbrev throwable_methods : List LibraryMethod
+abbrev pub throwable_methods : List LibraryMethod
 throwable_methods =
     instance (codes "getMessage") (codes "()Ljava/lang/String;") rule.Message ∷
     instance (codes "getCause") (codes "()Ljava/lang/Throwable;") rule.Cause ∷
@@ -131,10 +131,10 @@ throwable_methods =
     []
 
 -- a class of exceptions and its superclass, both of java.lang
-abbrev exception : List ℕ → List ℕ → LibraryClass
+abbrev pub exception : List ℕ → List ℕ → LibraryClass
 exception name super = record { name = codes "java/lang/" ++ name; super_class = Some (codes "java/lang/" ++ super); is_interface = false; is_final = false; fields = []; methods = throwable_constructors }
 
-abbrev exceptions : List LibraryClass
+abbrev pub exceptions : List LibraryClass
 exceptions =
     exception (codes "Exception") (codes "Throwable") ∷
     exception (codes "Error") (codes "Throwable") ∷
@@ -159,7 +159,7 @@ exceptions =
 
 -- ---- System and its stream
 
-abbrev system_methods : List LibraryMethod
+abbrev pub system_methods : List LibraryMethod
 system_methods =
     static (codes "exit") (codes "(I)V") rule.Exit ∷
     static (codes "identityHashCode") (codes "(Ljava/lang/Object;)I") rule.HashOf ∷
@@ -170,10 +170,10 @@ system_methods =
 abbrev pub system_class : List ℕ
 system_class = codes "java/lang/System"
 
-abbrev system_row : LibraryClass
+abbrev pub system_row : LibraryClass
 system_row = record { name = system_class; super_class = Some object_class; is_interface = false; is_final = true; fields = (codes "out", codes "Ljava/io/PrintStream;") ∷ []; methods = system_methods }
 
-abbrev prints : List ℕ → Bool → List LibraryMethod
+abbrev pub prints : List ℕ → Bool → List LibraryMethod
 prints name line =
     instance name (codes "(Ljava/lang/String;)V") (rule.Print OfText line) ∷
     instance name (codes "(Ljava/lang/Object;)V") (rule.Print OfObject line) ∷
@@ -183,16 +183,16 @@ prints name line =
     instance name (codes "(Z)V") (rule.Print OfBoolean line) ∷
     []
 
-abbrev stream_methods : List LibraryMethod
+abbrev pub stream_methods : List LibraryMethod
 stream_methods = prints (codes "print") false ++ prints (codes "println") true ++ instance (codes "println") (codes "()V") rule.PrintLine ∷ []
 
 -- ---- boxes
 
-abbrev own_type : Element → List ℕ
+abbrev pub own_type : Element → List ℕ
 own_type type = 76 ∷ box_class type ++ 59 ∷ []
 
 -- the box of a primitive type, with the name of the call that gives its value
-abbrev box : Element → List ℕ → List LibraryMethod → LibraryClass
+abbrev pub box : Element → List ℕ → List LibraryMethod → LibraryClass
 box type value more =
     class (box_class type) true (
     instance constructor (40 ∷ primitive type ++ codes ")V") (rule.SetBox type) ∷
@@ -202,10 +202,10 @@ box type value more =
     more
     )
 
-abbrev described : Element → List LibraryMethod
+abbrev pub described : Element → List LibraryMethod
 described type = hash_of (rule.BoxHash type) ∷ to_string_of (rule.DescribeBox type) ∷ []
 
-abbrev boxes : List LibraryClass
+abbrev pub boxes : List LibraryClass
 boxes =
     box Element.Int (codes "intValue") (described Element.Int) ∷
     box Element.Long (codes "longValue") (described Element.Long) ∷

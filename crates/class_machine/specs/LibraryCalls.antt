@@ -52,14 +52,14 @@ gives v w = Results None (Some v) w
 abbrev pub does : World → Work
 does w = Results None None w
 
-abbrev new_text : List ℕ → World → Work
+abbrev pub new_text : List ℕ → World → Work
 new_text units w = given (add_text w units) where
   given : Name × World → Work
   given made = gives (Pointer made.0) made.1
 
 -- ---- arguments
 
-abbrev is_string : Name → Bool
+abbrev pub is_string : Name → Bool
 is_string a = bytes_eq (class_of a) string_class
 
 -- the units of an argument that is to be a String, or null
@@ -68,30 +68,30 @@ text_argument w Null go = go None
 text_argument w (Pointer a) go = if is_string a then go (units_at w a) else Misuses
 text_argument w _ go = Misuses
 
-abbrev unless_null_text : Option (List ℕ) → (List ℕ → Work) → Work
+abbrev pub unless_null_text : Option (List ℕ) → (List ℕ → Work) → Work
 unless_null_text None go = Faults Fault.NullPointer
 unless_null_text (Some units) go = go units
 
-abbrev named : Held → Option Name
+abbrev pub named : Held → Option Name
 named (Pointer a) = Some a
 named _ = None
 
-abbrev null_text : List ℕ
+abbrev pub null_text : List ℕ
 null_text = codes "null"
 
-abbrev text_or_null : Option (List ℕ) → List ℕ
+abbrev pub text_or_null : Option (List ℕ) → List ℕ
 text_or_null units = unwrap_or units null_text
 
 -- ---- what is done with a text
 
-abbrev line_feed : Bool → List ℕ
+abbrev pub line_feed : Bool → List ℕ
 line_feed true = 10 ∷ []
 line_feed false = []
 
-abbrev printed : List ℕ → Bool → World → Work
+abbrev pub printed : List ℕ → Bool → World → Work
 printed units line w = Results (Some (events.Print (units ++ line_feed line))) None w
 
-abbrev appended : List ℕ → Name → World → Work
+abbrev pub appended : List ℕ → Name → World → Work
 appended units buffer w = gives (Pointer buffer) (set_object w buffer (Text (unwrap_or (units_at w buffer) [] ++ units)))
 
 -- a text that no String holds yet
@@ -102,7 +102,7 @@ finish_units Gives units w = new_text units w
 finish_units (Describes x rest) units w = Misuses
 
 -- the description of an exception: its class, and its message where it has one
-abbrev described : Name → Option (List ℕ) → List ℕ
+abbrev pub described : Name → Option (List ℕ) → List ℕ
 described x None = class_text (class_of x)
 described x (Some message) = class_text (class_of x) ++ codes ": " ++ message
 
@@ -120,16 +120,16 @@ resume wait v w = text_argument w v (λ units. finish_text wait (named v) units 
 
 -- ---- toString and getMessage
 
-abbrev no_parameters : List ℕ → NamedType
+abbrev pub no_parameters : List ℕ → NamedType
 no_parameters name = record { name = name; descriptor = codes "()Ljava/lang/String;" }
 
-abbrev boolean_text : ℤ → List ℕ
+abbrev pub boolean_text : ℤ → List ℕ
 boolean_text n = if same_int n (pos 0) then codes "false" else codes "true"
 
-abbrev low_unit : ℤ → ℕ
+abbrev pub low_unit : ℤ → ℕ
 low_unit n = cast_unsigned w32 n % 2 ^ 16
 
-abbrev box_text : Element → Held → List ℕ
+abbrev pub box_text : Element → Held → List ℕ
 box_text Element.Char (Int n) = low_unit n ∷ []
 box_text Element.Boolean (Int n) = boolean_text n
 box_text type (Int n) = decimal n
@@ -137,39 +137,39 @@ box_text type (Long n) = decimal n
 box_text type _ = []
 
 -- the text that a toString of the library makes of an object
-abbrev made_text : World → Rule → Name → Option (List ℕ)
+abbrev pub made_text : World → Rule → Name → Option (List ℕ)
 made_text w rule.Describe a = Some (class_text (class_of a) ++ 64 ∷ hexadecimal (number_of a))
 made_text w rule.Copy a = units_at w a
 made_text w (rule.DescribeBox type) a = Some (box_text type (read_field w a (value_field type)))
 made_text w _ a = None
 
 -- getMessage() of an exception that is being described
-abbrev message_by : World → Name → Wait → Option Rule → Method → Work
+abbrev pub message_by : World → Name → Wait → Option Rule → Method → Work
 message_by w x rest (Some rule.Message) m = resume (Describes x rest) (read_field w x message_field) w
 message_by w x rest (Some _) m = Misuses
 message_by w x rest None m = Calls m x (Describes x rest) w
 
-abbrev message_of_method : World → Name → Wait → Option Method → Work
+abbrev pub message_of_method : World → Name → Wait → Option Method → Work
 message_of_method w x rest None = Misuses
 message_of_method w x rest (Some m) = message_by w x rest m.rule m
 
 abbrev pub ask_message : Classes → World → Name → Wait → Work
 ask_message cs w x rest = message_of_method w x rest (cs.selected (class_of x) (no_parameters (codes "getMessage")))
 
-abbrev finish_made : Wait → World → Option (List ℕ) → Work
+abbrev pub finish_made : Wait → World → Option (List ℕ) → Work
 finish_made wait w None = Misuses
 finish_made wait w (Some units) = go_on (add_text w units) where
   go_on : Name × World → Work
   go_on made = finish_text wait (Some made.0) (Some units) made.1
 
 -- toString() of an object within a call
-abbrev text_by : Classes → World → Name → Wait → Option Rule → Method → Work
+abbrev pub text_by : Classes → World → Name → Wait → Option Rule → Method → Work
 text_by cs w a wait (Some rule.Itself) m = finish_text wait (Some a) (units_at w a) w
 text_by cs w a wait (Some rule.DescribeThrowable) m = ask_message cs w a wait
 text_by cs w a wait (Some r) m = finish_made wait w (made_text w r a)
 text_by cs w a wait None m = Calls m a wait w
 
-abbrev text_of_method : Classes → World → Name → Wait → Option Method → Work
+abbrev pub text_of_method : Classes → World → Name → Wait → Option Method → Work
 text_of_method cs w a wait None = Misuses
 text_of_method cs w a wait (Some m) = text_by cs w a wait m.rule m
 
@@ -189,66 +189,66 @@ spelled cs w _ _ wait = Misuses
 
 -- ---- Object, Class and System
 
-abbrev identity_hash : Name → Held
+abbrev pub identity_hash : Name → Held
 identity_hash a = Int (count_int (number_of a))
 
-abbrev same_held : Name → Held → Bool
+abbrev pub same_held : Name → Held → Bool
 same_held a (Pointer b) = same_name a b
 same_held a _ = false
 
-abbrev class_name : World → Name → Work
+abbrev pub class_name : World → Name → Work
 class_name w (ClassObject class) = new_text (class_text class) w
 class_name w _ = Misuses
 
-abbrev not_found : Classes → World → Held → Work
+abbrev pub not_found : Classes → World → Held → Work
 not_found cs w name = given (make cs w (codes "java/lang/ClassNotFoundException")) where
   given : Name × World → Work
   given made = Throws made.0 (write_field made.1 made.0 message_field name)
 
-abbrev for_name : Classes → World → Held → List ℕ → Work
+abbrev pub for_name : Classes → World → Held → List ℕ → Work
 for_name cs w name units = if is_unfit units then not_found cs w name else (if cs.knows (class_of_text units) then Loads (class_of_text units) else not_found cs w name)
 
 -- ---- texts
 
-abbrev char_at : World → Option ℕ → Work
+abbrev pub char_at : World → Option ℕ → Work
 char_at w None = Faults Fault.StringIndex
 char_at w (Some unit) = gives (Int (pos unit)) w
 
-abbrev char_in : World → List ℕ → ℤ → Work
+abbrev pub char_in : World → List ℕ → ℤ → Work
 char_in w units (pos i) = char_at w (slice_get units i)
 char_in w units (negsuc i) = Faults Fault.StringIndex
 
-abbrev same_units : World → List ℕ → Held → Bool
+abbrev pub same_units : World → List ℕ → Held → Bool
 same_units w units (Pointer b) = is_string b && bytes_eq units (unwrap_or (units_at w b) [])
 same_units w units _ = false
 
 -- the sum of the units, each times 31 to the power of the number of units after it
-abbrev text_hash : List ℕ → ℕ
+abbrev pub text_hash : List ℕ → ℕ
 text_hash [] = 0
 text_hash (u ∷ units) = u * 31 ^ length units + text_hash units
 
-abbrev substring : World → List ℕ → ℤ → ℤ → Work
+abbrev pub substring : World → List ℕ → ℤ → ℤ → Work
 substring w units (pos begin) (pos end) = if nat_le begin end && nat_le end (length units) then new_text (take (end - begin) (drop begin units)) w else Faults Fault.StringIndex
 substring w units _ _ = Faults Fault.StringIndex
 
-abbrev units_in : World → Name → List ℕ
+abbrev pub units_in : World → Name → List ℕ
 units_in w a = unwrap_or (units_at w a) []
 
 -- ---- boxes
 
-abbrev truth_hash : ℤ → ℤ
+abbrev pub truth_hash : ℤ → ℤ
 truth_hash n = if same_int n (pos 0) then pos 1237 else pos 1231
 
 -- the low 32 bits of the value xor its high half
-abbrev long_hash : ℕ → ℤ
+abbrev pub long_hash : ℕ → ℤ
 long_hash bits = count_int (bit_xor bits (bits / 2 ^ 32))
 
-abbrev box_hash : Element → Held → Held
+abbrev pub box_hash : Element → Held → Held
 box_hash Element.Boolean (Int n) = Int (truth_hash n)
 box_hash type (Long n) = Int (long_hash (cast_unsigned w64 n))
 box_hash type v = v
 
-abbrev same_value : Held → Held → Bool
+abbrev pub same_value : Held → Held → Bool
 same_value (Int n) (Int m) = same_int n m
 same_value (Long n) (Long m) = same_int n m
 same_value (Float b) (Float c) = b == c
@@ -256,16 +256,16 @@ same_value (Double b) (Double c) = b == c
 same_value _ _ = false
 
 -- the same class and value
-abbrev same_box : World → Element → Name → Held → Bool
+abbrev pub same_box : World → Element → Name → Held → Bool
 same_box w type a (Pointer b) = bytes_eq (class_of b) (box_class type) && same_value (read_field w a (value_field type)) (read_field w b (value_field type))
 same_box w type a _ = false
 
-abbrev box_of : World → Element → Held → Name × World → Work
+abbrev pub box_of : World → Element → Held → Name × World → Work
 box_of w type v made = gives (Pointer made.0) (write_field made.1 made.0 (value_field type) (narrowed type v))
 
 -- ---- exceptions
 
-abbrev set_cause : Classes → World → Name → Held → Held → Work
+abbrev pub set_cause : Classes → World → Name → Held → Held → Work
 set_cause cs w x text (Pointer cause) = if cs.is_subtype (class_of cause) throwable_class then does (write_field (write_field w x message_field text) x cause_field (Pointer cause)) else Misuses
 set_cause cs w x text Null = does (write_field (write_field w x message_field text) x cause_field Null)
 set_cause cs w x text _ = Misuses
@@ -273,7 +273,7 @@ set_cause cs w x text _ = Misuses
 -- ---- all rules
 
 -- of a method of an object, without further arguments
-abbrev on_object : Classes → World → Rule → Name → Work
+abbrev pub on_object : Classes → World → Rule → Name → Work
 on_object cs w rule.DoNothing a = does w
 on_object cs w rule.IdentityHash a = gives (identity_hash a) w
 on_object cs w rule.Describe a = finish_made Gives w (made_text w rule.Describe a)
@@ -293,7 +293,7 @@ on_object cs w (rule.DescribeBox type) a = finish_made Gives w (made_text w (rul
 on_object cs w _ a = Misuses
 
 -- of a method of an object, with one argument
-abbrev with_argument : Classes → World → Rule → Name → Held → Work
+abbrev pub with_argument : Classes → World → Rule → Name → Held → Work
 with_argument cs w rule.SameObject a v = gives (truth (same_held a v)) w
 with_argument cs w rule.CharAt a (Int i) = char_in w (units_in w a) i
 with_argument cs w rule.SameText a v = gives (truth (same_units w (units_in w a) v)) w
@@ -307,7 +307,7 @@ with_argument cs w (rule.SameBox type) a v = gives (truth (same_box w type a v))
 with_argument cs w _ a v = Misuses
 
 -- of a method of an object, with two arguments
-abbrev with_arguments : Classes → World → Rule → Name → Held → Held → Work
+abbrev pub with_arguments : Classes → World → Rule → Name → Held → Held → Work
 with_arguments cs w rule.Substring a (Int begin) (Int end) = substring w (units_in w a) begin end
 with_arguments cs w rule.SetMessageAndCause a text cause = text_argument w text (λ units. set_cause cs w a text cause)
 with_arguments cs w _ a u v = Misuses

@@ -33,11 +33,11 @@ Step S = Outcome Event Ending S
 -- ---- one frame to which control comes back
 
 module _ {P : Type 0} (code : Code P) (cs : Classes) where
-  abbrev result_taken : Option Held → World → Frame P → (Content P → Turn P) → Turn P
+  abbrev pub result_taken : Option Held → World → Frame P → (Content P → Turn P) → Turn P
   result_taken None w f go = go f.content
   result_taken (Some h) w f go = if has_room f.room (held_width h) f.content.operands then go (pushed_on (Plain h) f.content) else stops Broken
 
-  abbrev text_taken : Option Held → World → Frame P → Wait → Turn P
+  abbrev pub text_taken : Option Held → World → Frame P → Wait → Turn P
   text_taken None w f wait = stops Broken
   text_taken (Some v) w f wait = worked code cs f f.content w false (resume wait v w)
 
@@ -49,11 +49,11 @@ module _ {P : Type 0} (code : Code P) (cs : Classes) where
   taking (Within wait) v w f = text_taken v w f wait
 
   -- a class that isn't there and an interface catch nothing
-  abbrev catches : Name → Option (List ℕ) → Bool
+  abbrev pub catches : Name → Option (List ℕ) → Bool
   catches x None = true
   catches x (Some class) = cs.knows class && (not (cs.is_interface class) && cs.is_subtype (class_of x) class)
 
-  abbrev first_handler : Name → List (Handler P) → Option (Handler P)
+  abbrev pub first_handler : Name → List (Handler P) → Option (Handler P)
   first_handler x [] = None
   first_handler x (h ∷ handlers) = if catches x h.catch then Some h else first_handler x handlers
 
@@ -81,10 +81,10 @@ telling (Some event) w (Ended Broken) = Ended Broken
 telling (Some event) w (Ended ending) = Said event (record { frames = []; world = w; due = Finally ending })
 
 module _ {P : Type 0} (code : Code P) (cs : Classes) (due : Due) where
-  abbrev went : World → List (Frame P) → Step (State P)
+  abbrev pub went : World → List (Frame P) → Step (State P)
   went w frames = Went (record { frames = frames; world = w; due = due })
 
-  abbrev completed : Frame P → Bool → P → Content P → Frame P
+  abbrev pub completed : Frame P → Bool → P → Content P → Frame P
   completed f super place c = record f { place = place; content = c; constructed = f.constructed || super }
 
   -- a frame to which control came back goes on, or the run is over
@@ -99,12 +99,12 @@ module _ {P : Type 0} (code : Code P) (cs : Classes) (due : Due) where
   returned purpose v w [] = Ended (Returned (option_map (shown w) v))
   returned purpose v w (f ∷ below) = back_in f (taking code cs purpose v w f) below
 
-  abbrev handled : Option (Handler P) → Name → World → Frame P → List (Frame P) → Step (State P) → Step (State P)
+  abbrev pub handled : Option (Handler P) → Name → World → Frame P → List (Frame P) → Step (State P) → Step (State P)
   handled None x w f below otherwise = otherwise
   handled (Some h) x w f below otherwise = back_in f (catching code cs x h.place w f) below
 
   -- out of a frame without an entry for it; out of an initialiser it ends the run
-  abbrev out_of : Purpose → Step (State P) → Step (State P)
+  abbrev pub out_of : Purpose → Step (State P) → Step (State P)
   out_of (Initialises class) onward = Ended (InitFailed class)
   out_of purpose onward = onward
 
@@ -114,7 +114,7 @@ module _ {P : Type 0} (code : Code P) (cs : Classes) (due : Due) where
   unwound x w (f ∷ below) =
       handled (handler_of code cs x f) x w f below (out_of f.purpose (unwound x (leaving f.monitor w) below))
 
-  abbrev finished : Option Event → World → Ending → Step (State P)
+  abbrev pub finished : Option Event → World → Ending → Step (State P)
   finished said w ending = telling said w (Ended ending)
 
   abbrev pub moved : Turn P → World → Frame P → List (Frame P) → Step (State P)
@@ -129,7 +129,7 @@ module _ {P : Type 0} (code : Code P) (cs : Classes) (due : Due) where
 -- ---- when no frame is left
 
 -- a native entry: its event, and its answer ends the run
-abbrev answered : {P : Type 0} → World → Event → Response → Step (State P)
+abbrev pub answered : {P : Type 0} → World → Event → Response → Step (State P)
 answered w event (Returns v w') = Said event (record { frames = []; world = w'; due = Finally (Returned (option_map (shown w') v)) })
 answered w event (Throws x w') = Said event (record { frames = []; world = w'; due = Finally (Uncaught (class_of x) (message_of w' x)) })
 answered w event Lacks = Said event (record { frames = []; world = w; due = Finally ScriptEnds })
@@ -140,7 +140,7 @@ closing cs w (NativeEntry method given) = answered w (native_event w method give
 closing cs w (Finally ending) = Ended ending
 
 module _ {P : Type 0} (code : Code P) (cs : Classes) where
-  abbrev stepped : Due → World → List (Frame P) → Step (State P)
+  abbrev pub stepped : Due → World → List (Frame P) → Step (State P)
   stepped due w [] = closing cs w due
   stepped due w (f ∷ below) = moved code cs due (turn code cs f w) w f below
 

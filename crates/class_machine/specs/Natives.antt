@@ -38,24 +38,24 @@ abbrev pub takes_text : Classes → Option (List ℕ) → Bool
 takes_text cs None = false
 takes_text cs (Some class) = cs.is_subtype string_class class
 
-abbrev if_fits : Bool → Response → Response
+abbrev pub if_fits : Bool → Response → Response
 if_fits true r = r
 if_fits false r = Lacks
 
-abbrev a_text : Name × World → Response
+abbrev pub a_text : Name × World → Response
 a_text made = Returns (Some (Pointer made.0)) made.1
 
 -- an exception that holds the message
-abbrev with_message : List ℕ → Name × World → Response
+abbrev pub with_message : List ℕ → Name × World → Response
 with_message message made = given made.0 (add_text made.1 message) where
   given : Name → Name × World → Response
   given x text = Throws x (write_field text.1 x message_field (Pointer text.0))
 
-abbrev thrown : Classes → World → List ℕ → List ℕ → Response
+abbrev pub thrown : Classes → World → List ℕ → List ℕ → Response
 thrown cs w class message = if_fits (cs.is_subtype class throwable_class) (with_message message (make cs w class))
 
 -- an answer to a call of a method with a result of the type
-abbrev result_of : Classes → World → List ℕ → Answer → Response
+abbrev pub result_of : Classes → World → List ℕ → Answer → Response
 result_of cs w type (events.Int n) = if_fits (is_int_of (element_of type) n) (Returns (Some (Int n)) w)
 result_of cs w type (events.Long n) = if_fits (is_long (element_of type)) (Returns (Some (Long n)) w)
 result_of cs w type events.Null = if_fits (is_reference (element_of type)) (Returns (Some Null) w)
@@ -64,16 +64,16 @@ result_of cs w type events.Void = Lacks
 result_of cs w type (events.Throw class message) = thrown cs w class message
 
 -- an answer to a call of a method without result
-abbrev end_of : Classes → World → Answer → Response
+abbrev pub end_of : Classes → World → Answer → Response
 end_of cs w events.Void = Returns None w
 end_of cs w (events.Throw class message) = thrown cs w class message
 end_of cs w _ = Lacks
 
-abbrev fitted : Classes → World → Option (List ℕ) → Answer → Response
+abbrev pub fitted : Classes → World → Option (List ℕ) → Answer → Response
 fitted cs w None a = end_of cs w a
 fitted cs w (Some type) a = result_of cs w type a
 
-abbrev taken : Classes → World → Option (List ℕ) → List Answer → Response
+abbrev pub taken : Classes → World → Option (List ℕ) → List Answer → Response
 taken cs w type [] = Lacks
 taken cs w type (a ∷ answers) = fitted cs (record w { answers = answers }) type a
 

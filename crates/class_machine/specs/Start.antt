@@ -28,22 +28,22 @@ first_world answers = record { heap = (output, Instance []) ∷ []; statics = []
 
 -- ---- arguments, made in the order of the words: an array before its elements
 
-abbrev texts_from : List (List ℕ) → World → List Held × World
+abbrev pub texts_from : List (List ℕ) → World → List Held × World
 texts_from [] w = ([], w)
 texts_from (units ∷ texts) w =
     let first = add_text w units in let others = texts_from texts first.1 in (Pointer first.0 ∷ others.0, others.1)
 
-abbrev with_elements : Name → List Held × World → Held × World
+abbrev pub with_elements : Name → List Held × World → Held × World
 with_elements a made = (Pointer a, set_object made.1 a (Array made.0))
 
 -- a list of texts is an array of String
-abbrev texts_array : List (List ℕ) → World → Name → Held × World
+abbrev pub texts_array : List (List ℕ) → World → Name → Held × World
 texts_array texts w a = with_elements a (texts_from texts (with_object w a (Array [])))
 
-abbrev a_text : Name × World → Held × World
+abbrev pub a_text : Name × World → Held × World
 a_text made = (Pointer made.0, made.1)
 
-abbrev argument : EntryArgument → World → Held × World
+abbrev pub argument : EntryArgument → World → Held × World
 argument (Int n) w = (values.Int n, w)
 argument (Long n) w = (values.Long n, w)
 argument Null w = (values.Null, w)
@@ -57,23 +57,23 @@ arguments (x ∷ xs) w = let first = argument x w in let others = arguments xs f
 -- ---- the first state
 
 module _ {P : Type 0} (code : Code P) (cs : Classes) where
-  abbrev state : List (Frame P) → World → Due → State P
+  abbrev pub state : List (Frame P) → World → Due → State P
   state frames w due = record { frames = frames; world = w; due = due }
 
   -- the run ends at its first step
-  abbrev over : World → Ending → State P
+  abbrev pub over : World → Ending → State P
   over w ending = state [] w (Finally ending)
 
-  abbrev above : World → Method → List (Frame P) → Due → State P
+  abbrev pub above : World → Method → List (Frame P) → Due → State P
   above w m frames due = state (pending code cs w m.name.class ++ frames) (begin cs w m.name.class) due
 
-  abbrev at_entry : Method → List Held → World → Option (Entry P) → State P
+  abbrev pub at_entry : Method → List Held → World → Option (Entry P) → State P
   at_entry m given w None = over w (Unresolved (member_text m.name))
   at_entry m given w (Some e) =
       if nat_le (arguments_width given) e.locals
       then above (entering (lock_of m None) w) m (entered Ordinary m None given e ∷ []) Nothing else over w Broken
 
-  abbrev with_arguments : Method → List Held × World → State P
+  abbrev pub with_arguments : Method → List Held × World → State P
   with_arguments m made = if m.is_native then above made.1 m [] (NativeEntry m.name made.0) else at_entry m made.0 made.1 (code.method m.name)
 
   -- the first state of a run of a static method, with a script

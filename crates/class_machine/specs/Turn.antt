@@ -102,13 +102,13 @@ pub data Link : Type 0 where
   -- this class is to be initialised
   Needs : (class : List ℕ) → Link
 
-abbrev missing_member : Reference → Link
+abbrev pub missing_member : Reference → Link
 missing_member r = Refused (Unresolved (member_text r))
 
-abbrev missing_class : List ℕ → Link
+abbrev pub missing_class : List ℕ → Link
 missing_class class = Refused (Unresolved (dotted class))
 
-abbrev or_free : Bool → Link → Link
+abbrev pub or_free : Bool → Link → Link
 or_free true link = Free
 or_free false link = link
 
@@ -129,12 +129,12 @@ abbrev pub entering : Option Name → World → World
 entering None w = w
 entering (Some a) w = enter_monitor w a
 
-abbrev with_receiver : Option Name → List Held → List Held
+abbrev pub with_receiver : Option Name → List Held → List Held
 with_receiver None given = given
 with_receiver (Some a) given = Pointer a ∷ given
 
 -- the locals of a call
-abbrev filled : {P : Type 0} → ℕ → List Held → List (Local P)
+abbrev pub filled : {P : Type 0} → ℕ → List Held → List (Local P)
 filled n given = argument_locals given ++ replicate (n - arguments_width given) Unset
 
 -- the frame of a method, with its arguments as the first locals
@@ -146,7 +146,7 @@ module _ {P : Type 0} (code : Code P) (cs : Classes) where
   -- ---- calls, before anything is done
 
   -- the room of the result of a call that has no frame
-  abbrev room_for_result : Frame P → Content P → Option (List ℕ) → Bool
+  abbrev pub room_for_result : Frame P → Content P → Option (List ℕ) → Bool
   room_for_result f c None = true
   room_for_result f c (Some type) = has_room f.room (kind_width (kind_in type)) c.operands
 
@@ -154,7 +154,7 @@ module _ {P : Type 0} (code : Code P) (cs : Classes) where
   has_result_room f c m = room_for_result f c (result_in m.name.member.descriptor)
 
   -- the arguments fit the locals of the method
-  abbrev entry_fits : Reference → List Held → Link → Option (Entry P) → Link
+  abbrev pub entry_fits : Reference → List Held → Link → Option (Entry P) → Link
   entry_fits r given go None = missing_member r
   entry_fits r given go (Some e) = if nat_le (arguments_width given) e.locals then go else Refused events.Broken
 
@@ -165,26 +165,26 @@ module _ {P : Type 0} (code : Code P) (cs : Classes) where
 
   -- ---- searches (JVMS 5.4.3)
 
-  abbrev static_field : Reference → Option Field → Link
+  abbrev pub static_field : Reference → Option Field → Link
   static_field r None = missing_member r
   static_field r (Some field) = if field.is_static then Needs field.name.class else missing_member r
 
-  abbrev instance_field : Reference → Option Field → Link
+  abbrev pub instance_field : Reference → Option Field → Link
   instance_field r None = missing_member r
   instance_field r (Some field) = if field.is_static then missing_member r else Free
 
-  abbrev static_method : Frame P → Content P → Reference → List Held → Option Method → Link
+  abbrev pub static_method : Frame P → Content P → Reference → List Held → Option Method → Link
   static_method f c r given None = missing_member r
   static_method f c r given (Some m) = if m.is_static then callable f c r given m (Needs m.name.class) else missing_member r
 
-  abbrev instance_method : Reference → Option Method → Link
+  abbrev pub instance_method : Reference → Option Method → Link
   instance_method r None = missing_member r
   instance_method r (Some m) = if m.is_static then missing_member r else Free
 
-  abbrev known_class : List ℕ → Link
+  abbrev pub known_class : List ℕ → Link
   known_class class = or_free (cs.knows class) (missing_class class)
 
-  abbrev asked_link : Request → Link
+  abbrev pub asked_link : Request → Link
   asked_link (GetStatic r) = static_field r (cs.field r)
   asked_link (PutStatic r v) = static_field r (cs.field r)
   asked_link (GetField r a) = instance_field r (cs.field r)
@@ -218,7 +218,7 @@ module _ {P : Type 0} (code : Code P) (cs : Classes) where
     given : Name × World → Turn P
     given made = Raises None made.0 made.1
 
-  abbrev replied : Frame P → Content P → World → Reply → Turn P
+  abbrev pub replied : Frame P → Content P → World → Reply → Turn P
   replied f c w (Gives v w') = stays (code.next f.place) (pushed_on (Plain v) c) w'
   replied f c w (Done w') = stays (code.next f.place) c w'
   replied f c w (Faults fault) = fails fault w
@@ -226,17 +226,17 @@ module _ {P : Type 0} (code : Code P) (cs : Classes) where
 
   -- ---- initialisation (JVMS 2.17.4, 5.5)
 
-  abbrev initialiser_at : List ℕ → Reference → Option (Entry P) → List (Frame P)
+  abbrev pub initialiser_at : List ℕ → Reference → Option (Entry P) → List (Frame P)
   initialiser_at class method None = []
   initialiser_at class method (Some e) =
       record { method = method; place = e.start; content = content [] (replicate e.locals Unset); room = e.room; monitor = None; constructed = false; purpose = Initialises class } ∷ []
 
-  abbrev own_initialiser : List ℕ → Option Method → List (Frame P)
+  abbrev pub own_initialiser : List ℕ → Option Method → List (Frame P)
   own_initialiser class None = []
   own_initialiser class (Some m) = initialiser_at class m.name (code.method m.name)
 
   -- of these classes, which go upward, the initialisers of those that haven't begun, the highest one's first
-  abbrev initialisers : List (List ℕ) → List (List ℕ) → List (Frame P)
+  abbrev pub initialisers : List (List ℕ) → List (List ℕ) → List (Frame P)
   initialisers begun [] = []
   initialisers begun (class ∷ above) =
       initialisers begun above ++ (if is_among begun class then [] else own_initialiser class (cs.initialiser class))
@@ -247,37 +247,37 @@ module _ {P : Type 0} (code : Code P) (cs : Classes) where
 
   -- ---- calls
 
-  abbrev enter_at : Purpose → Content P → World → Method → Option Name → List Held → Entry P → Turn P
+  abbrev pub enter_at : Purpose → Content P → World → Method → Option Name → List Held → Entry P → Turn P
   enter_at purpose c w m receiver given e =
       if nat_le (arguments_width given) e.locals
       then Enters (entered purpose m receiver given e) c (entering (lock_of m receiver) w) else stops events.Broken
 
   -- into the method's code; where it has none, the named member is unresolved
-  abbrev enters : Purpose → Content P → World → Reference → Method → Option Name → List Held → Option (Entry P) → Turn P
+  abbrev pub enters : Purpose → Content P → World → Reference → Method → Option Name → List Held → Option (Entry P) → Turn P
   enters purpose c w r m receiver given None = stops (Unresolved (member_text r))
   enters purpose c w r m receiver given (Some e) = enter_at purpose c w m receiver given e
 
-  abbrev is_this_or_super : Purpose → Bool
+  abbrev pub is_this_or_super : Purpose → Bool
   is_this_or_super Constructs = true
   is_this_or_super _ = false
 
-  abbrev with_result : Option Held → Content P → Content P
+  abbrev pub with_result : Option Held → Content P → Content P
   with_result None c = c
   with_result (Some v) c = pushed_on (Plain v) c
 
   -- a native call: its event, and what the script answers
-  abbrev responded : Frame P → Content P → Bool → Event → Response → Turn P
+  abbrev pub responded : Frame P → Content P → Bool → Event → Response → Turn P
   responded f c super event (Returns v w) = completes (Some event) super (code.next f.place) (with_result v c) w
   responded f c super event (native.Throws x w) = Raises (Some event) x w
   responded f c super event Lacks = Finishes (Some event) ScriptEnds
 
   -- toString or getMessage of a class outside the library, within a library call
-  abbrev enter_within : Content P → World → Method → Name → Wait → Turn P
+  abbrev pub enter_within : Content P → World → Method → Name → Wait → Turn P
   enter_within c w m a wait =
       if m.is_native then stops (Unresolved (member_text m.name)) else enters (Within wait) c w m.name m (Some a) (Pointer a ∷ []) (code.method m.name)
 
   -- Class.forName triggers initialisation, and is then executed again; an array type initialises nothing
-  abbrev loads : Frame P → Content P → World → List ℕ → List (Frame P) → Turn P
+  abbrev pub loads : Frame P → Content P → World → List ℕ → List (Frame P) → Turn P
   loads f c w class [] = completes None false (code.next f.place) (pushed_on (Plain (Pointer (ClassObject class))) c) (begin cs w class)
   loads f c w class (g ∷ frames) = Begins (g ∷ frames) (begin cs w class)
 
@@ -291,60 +291,60 @@ module _ {P : Type 0} (code : Code P) (cs : Classes) where
   worked f c w super (Exits status) = stops (Exit status)
   worked f c w super Misuses = stops events.Broken
 
-  abbrev ruled : World → Rule → Option Name → List Held → Work
+  abbrev pub ruled : World → Rule → Option Name → List Held → Work
   ruled w rule None given = by_static_rule cs w rule given
   ruled w rule (Some a) given = by_rule cs w rule a given
 
-  abbrev by_body : Purpose → Frame P → Content P → World → Reference → Method → Option Name → List Held → Option Rule → Turn P
+  abbrev pub by_body : Purpose → Frame P → Content P → World → Reference → Method → Option Name → List Held → Option Rule → Turn P
   by_body purpose f c w r m receiver given (Some rule) = worked f c w (is_this_or_super purpose) (ruled w rule receiver given)
   by_body purpose f c w r m receiver given None = enters purpose c w r m receiver (with_receiver receiver given) (code.method m.name)
 
-  abbrev by_kind : Purpose → Frame P → Content P → World → Reference → Method → Option Name → List Held → Turn P
+  abbrev pub by_kind : Purpose → Frame P → Content P → World → Reference → Method → Option Name → List Held → Turn P
   by_kind purpose f c w r m receiver given =
       if m.is_native
       then responded f c (is_this_or_super purpose) (native_event w m.name (with_receiver receiver given)) (respond cs w m.name)
       else by_body purpose f c w r m receiver given m.rule
 
   -- the method that is to run, named by r in the instruction
-  abbrev runs : Purpose → Frame P → Content P → World → Reference → Method → Option Name → List Held → Turn P
+  abbrev pub runs : Purpose → Frame P → Content P → World → Reference → Method → Option Name → List Held → Turn P
   runs purpose f c w r m receiver given =
       if is_frameless m && not (has_result_room f c m) then stops events.Broken else by_kind purpose f c w r m receiver given
 
-  abbrev runs_selected : Purpose → Frame P → Content P → World → Reference → Name → List Held → Option Method → Turn P
+  abbrev pub runs_selected : Purpose → Frame P → Content P → World → Reference → Name → List Held → Option Method → Turn P
   runs_selected purpose f c w r a given None = stops (Unresolved (member_text r))
   runs_selected purpose f c w r a given (Some m) = runs purpose f c w r m (Some a) given
 
   -- a constructor that is called in a constructor, on an object
-  abbrev purpose_of : Frame P → Bool → Reference → Purpose
+  abbrev pub purpose_of : Frame P → Bool → Reference → Purpose
   purpose_of f special r = if special && (is_constructor r && is_constructor f.method) then Constructs else Ordinary
 
-  abbrev selection : Frame P → Bool → Name → Method → Option Method
+  abbrev pub selection : Frame P → Bool → Name → Method → Option Method
   selection f true a m = select_special cs f.method.class m
   selection f false a m = select cs (class_of a) m
 
   -- the object is an instance of the class that declares the found method, if that is no interface
-  abbrev serves_as : Name → Method → Bool
+  abbrev pub serves_as : Name → Method → Bool
   serves_as a m = cs.is_interface m.name.class || cs.is_subtype (class_of a) m.name.class
 
-  abbrev call_on : Frame P → Content P → World → Bool → Reference → Method → List Held → Option Name → Turn P
+  abbrev pub call_on : Frame P → Content P → World → Bool → Reference → Method → List Held → Option Name → Turn P
   call_on f c w special r m given None = if is_frameless m && not (has_result_room f c m) then stops events.Broken else fails Fault.NullPointer w
   call_on f c w special r m given (Some a) =
       if serves_as a m then runs_selected (purpose_of f special r) f c w r a given (selection f special a m) else stops events.Broken
 
   -- every copy of the token becomes the object
-  abbrev built : ℕ → Held → Content P → Content P
+  abbrev pub built : ℕ → Held → Content P → Content P
   built number object c = content (map (filled_in number object) c.operands) (map (filled_local number object) c.locals)
 
-  abbrev build_made : Frame P → Content P → Reference → ℕ → Method → List Held → Name × World → Turn P
+  abbrev pub build_made : Frame P → Content P → Reference → ℕ → Method → List Held → Name × World → Turn P
   build_made f c r number m given made = runs Ordinary f (built number (Pointer made.0) c) made.1 r m (Some made.0) given
 
   -- the constructor's class is the token's or a superclass of it
-  abbrev build : Frame P → Content P → World → Reference → List ℕ → ℕ → Method → List Held → Turn P
+  abbrev pub build : Frame P → Content P → World → Reference → List ℕ → ℕ → Method → List Held → Turn P
   build f c w r class number m given =
       if is_among (cs.superclasses class) m.name.class then build_made f c r number m given (make cs w class) else stops events.Broken
 
   -- with the method that the search found
-  abbrev with_method : Option Method → (Method → Turn P) → Turn P
+  abbrev pub with_method : Option Method → (Method → Turn P) → Turn P
   with_method None go = stops events.Broken
   with_method (Some m) go = go m
 
@@ -366,11 +366,11 @@ module _ {P : Type 0} (code : Code P) (cs : Classes) where
   taken f w (effects.Unmodelled op) = stops (Unmodelled op)
   taken f w effects.Broken = stops events.Broken
 
-  abbrev initialised : Frame P → World → Effect P → List ℕ → List (Frame P) → Turn P
+  abbrev pub initialised : Frame P → World → Effect P → List ℕ → List (Frame P) → Turn P
   initialised f w e class [] = taken f (begin cs w class) e
   initialised f w e class (g ∷ frames) = Begins (g ∷ frames) (begin cs w class)
 
-  abbrev linked : Frame P → World → Effect P → Link → Turn P
+  abbrev pub linked : Frame P → World → Effect P → Link → Turn P
   linked f w e Free = taken f w e
   linked f w e (Refused ending) = stops ending
   linked f w e (Needs class) = initialised f w e class (pending w class)
@@ -384,7 +384,7 @@ module _ {P : Type 0} (code : Code P) (cs : Classes) where
   abbrev pub effect_at : Frame P → Operation → Effect P
   effect_at f operation = effect (setting f) operation f.content.operands f.content.locals
 
-  abbrev executed : Frame P → World → Option Operation → Turn P
+  abbrev pub executed : Frame P → World → Option Operation → Turn P
   executed f w None = stops events.Broken
   executed f w (Some operation) = resolved f w (effect_at f operation)
 
