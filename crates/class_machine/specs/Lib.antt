@@ -21,3 +21,5 @@ pub mod ClassFiles
 pub mod Searches
 pub mod Listed
 pub mod Examples
+pub mod Renaming
+pub mod Laws

@@ -1,0 +1,3 @@
+-- The laws that crates above cite.
+--     effect_kept  what an instruction does is the same to a grown frame
+pub mod EffectKept
