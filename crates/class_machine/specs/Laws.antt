@@ -1,3 +1,4 @@
 -- The laws that crates above cite.
 --     effect_kept  what an instruction does is the same to a grown frame
 pub mod EffectKept
+pub mod TurnKept

@@ -23,3 +23,4 @@ pub mod Listed
 pub mod Examples
 pub mod Renaming
 pub mod Laws
+pub mod Standing

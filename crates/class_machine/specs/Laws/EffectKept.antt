@@ -35,10 +35,10 @@ module _ {P Q : Type 0} (f : P → Q) (extra : List (Local Q)) where
   abbrev K : Effect P → Effect Q → Type 0
   K = Kept f extra
 
-  broken : {e' : Effect Q} → K Broken e'
+  pub broken : {e' : Effect Q} → K Broken e'
   broken = record { keeps = λ ne. absurd (ne refl) }
 
-  same : {e : Effect P} → K e (grown_effect f extra e)
+  pub same : {e : Effect P} → K e (grown_effect f extra e)
   same = record { keeps = λ ne. refl }
 
   -- ---- tests
@@ -82,7 +82,7 @@ module _ {P Q : Type 0} (f : P → Q) (extra : List (Local Q)) where
   rs-append [] ys = refl
   rs-append (x ∷ xs) ys = ap (λ l. r x ∷ l) (rs-append xs ys)
 
-  le_more : (a a' room more : ℕ) → a' ≡ a → nat_le a room ≡ true → nat_le a' (room + more) ≡ true
+  pub le_more : (a a' room more : ℕ) → a' ≡ a → nat_le a room ≡ true → nat_le a' (room + more) ≡ true
   le_more a a' room more e h = grind (arith, nat_tests)
 
   pub push_kept : (room more : ℕ) (v : Value P) (ops : List (Value P)) (go : List (Value P) → Effect P) (go' : List (Value Q) → Effect Q) →
@@ -174,7 +174,7 @@ module _ {P Q : Type 0} (f : P → Q) (extra : List (Local Q)) where
 
   -- ---- locals
 
-  get_grown : (ls : List (Local P)) (n : ℕ) (x : Local P) → slice_get ls n ≡ Some x → slice_get (rl ls) n ≡ Some (renamed_local f x)
+  pub get_grown : (ls : List (Local P)) (n : ℕ) (x : Local P) → slice_get ls n ≡ Some x → slice_get (rl ls) n ≡ Some (renamed_local f x)
   get_grown [] n x e = absurd cc
   get_grown (l ∷ ls) zero x e = let same : l ≡ x = cc in ap (λ y. Some (renamed_local f y)) same
   get_grown (l ∷ ls) (suc n) x e = get_grown ls n x e
