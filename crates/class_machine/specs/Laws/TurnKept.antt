@@ -11,7 +11,7 @@ use Rattle.class_machine.specs.Values.{Name, ClassObject, class_of, throwable_cl
 use Rattle.class_machine.specs.Descriptors.{kind_in, is_array, result_in}
 use Rattle.class_machine.specs.Events.{Event, Ending, Returned, Uncaught, InitFailed, Exit, Unmodelled, Unresolved, ScriptEnds}
 use Rattle.class_machine.specs.Events as events
-use Rattle.class_machine.specs.Classes.{member_text, is_constructor, Field, Method, Classes, is_among, fault_class}
+use Rattle.class_machine.specs.Classes.{dotted, member_text, is_constructor, Field, Method, Classes, is_among, fault_class}
 use Rattle.class_machine.specs.World.{World, make, begin, enter_monitor}
 use Rattle.class_machine.specs.Operations.{Operation}
 use Rattle.class_machine.specs.Effect.{Setting, Effect, On, Jump, Enter, Back, Ask, Announce, CallStatic, CallOn, Build, Leave, Fail, Throw, is_broken, effect}
@@ -263,3 +263,147 @@ module _ {P Q : Type 0} (f at : P → Q) (code : Code P) (code' : Code Q) (cs cs
         thrown_kept false z w w' a = tt
     taken_kept w w' a (effects.Unmodelled op) s k = refl
     taken_kept w w' a effects.Broken s k = tt
+
+    -- ---- searches
+
+    abbrev RefusedKept : Ending → Link → Type 0
+    RefusedKept events.Broken l = Unit {0}
+    RefusedKept ending l = l ≡ Refused ending
+
+    abbrev LinkKept : Link → Link → Type 0
+    LinkKept Free l = l ≡ Free
+    LinkKept (Needs class) l = l ≡ Needs class
+    LinkKept (Refused ending) l = RefusedKept ending l
+
+    refused_same : (ending : Ending) → RefusedKept ending (Refused ending)
+    refused_same (Returned v) = refl
+    refused_same (Uncaught class message) = refl
+    refused_same (InitFailed class) = refl
+    refused_same (Exit status) = refl
+    refused_same (Unmodelled op) = refl
+    refused_same (Unresolved name) = refl
+    refused_same ScriptEnds = refl
+    refused_same events.Broken = tt
+
+    link_same : (l : Link) → LinkKept l l
+    link_same Free = refl
+    link_same (Needs class) = refl
+    link_same (Refused ending) = refused_same ending
+
+    fits_at : (more : ℕ) (go : Link) (width locals : ℕ) (b : Bool) → nat_le width locals ≡ b → LinkKept (if b then go else Refused events.Broken) (if nat_le width (locals + more) then go else Refused events.Broken)
+    fits_at more go width locals true e = let test : nat_le width (locals + more) ≡ true = grind (arith, nat_tests) in rw test (link_same go)
+    fits_at more go width locals false e = tt
+
+    entry_fits_kept : (r : Reference) (given : List Held) (go : Link) (o : Option (Entry P)) (o' : Option (Entry Q)) → EntryKept f at code code' o o' → LinkKept (Turn.entry_fits code cs r given go o) (Turn.entry_fits code' cs' r given go o')
+    entry_fits_kept r given go None o' k = rw k refl
+    entry_fits_kept r given go (Some e) o' k = rw k.2 (fits_at k.1 go (arguments_width given) e.locals (nat_le (arguments_width given) e.locals) refl)
+
+    callable_at : (b r r' : Bool) → (r ≡ true → r' ≡ true) → (go l l' : Link) → LinkKept l l' → LinkKept (if b then (if r then go else Refused events.Broken) else l) (if b then (if r' then go else Refused events.Broken) else l')
+    callable_at true true r' h go l l' k = rw (h refl) (link_same go)
+    callable_at true false r' h go l l' k = tt
+    callable_at false r r' h go l l' k = k
+
+    callable_kept : (c : Content P) (r : Reference) (given : List Held) (m : Method) (go : Link) → LinkKept (Turn.callable code cs x c r given m go) (Turn.callable code' cs' y (gc c) r given m go)
+    callable_kept c r given m go =
+        callable_at (is_frameless m) (Turn.has_result_room code cs x c m) (Turn.has_result_room code' cs' y (gc c) m) (room_kept c (result_in m.name.member.descriptor)) go _ _
+        (entry_fits_kept r given go (code.method m.name) (code'.method m.name) (arrives.method m.name))
+
+    if_kept : (b : Bool) (l l' d : Link) → LinkKept l l' → LinkKept d d → LinkKept (if b then l else d) (if b then l' else d)
+    if_kept true l l' d k h = k
+    if_kept false l l' d k h = h
+
+    static_link_kept : (c : Content P) (r : Reference) (given : List Held) (o : Option Method) → LinkKept (Turn.static_method code cs x c r given o) (Turn.static_method code' cs' y (gc c) r given o)
+    static_link_kept c r given None = refl
+    static_link_kept c r given (Some m) = if_kept m.is_static _ _ _ (callable_kept c r given m (Needs m.name.class)) refl
+
+    instance_link_kept : (r : Reference) (o : Option Method) → LinkKept (Turn.instance_method code cs r o) (Turn.instance_method code' cs' r o)
+    instance_link_kept r None = refl
+    instance_link_kept r (Some m) = if_kept m.is_static (Refused (Unresolved (member_text r))) (Refused (Unresolved (member_text r))) Free refl refl
+
+    pub link_kept : (e : Effect P) → SearchedAlike f code code' cs cs' Alike e → LinkKept (Turn.link code cs x e) (Turn.link code' cs' y (grown_effect f g.locals e))
+    link_kept (On c) s = refl
+    link_kept (Jump i c) s = refl
+    link_kept (Enter i c) s = refl
+    link_kept (Back p c) s = refl
+    link_kept (Ask q c) s = rw s (link_same (Turn.asked_link code cs q))
+    link_kept (Announce class c) s = rw s (link_same (if cs.has_objects class then Needs class else Refused (Unresolved (dotted class))))
+    link_kept (CallStatic r given c) s = rw s (static_link_kept c r given (cs.method r))
+    link_kept (CallOn special r z given c) s = rw s (instance_link_kept r (cs.method r))
+    link_kept (Build r class number given c) s = rw s (instance_link_kept r (cs.method r))
+    link_kept (Leave v) s = refl
+    link_kept (Fail fault) s = refl
+    link_kept (Throw z) s = refl
+    link_kept (effects.Unmodelled op) s = refl
+    link_kept effects.Broken s = refl
+
+    -- ---- the whole turn
+
+    pub broken_same : (e : Effect P) → is_broken (grown_effect f g.locals e) ≡ is_broken e
+    broken_same (On c) = refl
+    broken_same (Jump i c) = refl
+    broken_same (Enter i c) = refl
+    broken_same (Back p c) = refl
+    broken_same (Ask q c) = refl
+    broken_same (Announce class c) = refl
+    broken_same (CallStatic r given c) = refl
+    broken_same (CallOn special r z given c) = refl
+    broken_same (Build r class number given c) = refl
+    broken_same (Leave v) = refl
+    broken_same (Fail fault) = refl
+    broken_same (Throw z) = refl
+    broken_same (effects.Unmodelled op) = refl
+    broken_same effects.Broken = refl
+
+    initialised_kept : (class : List ℕ) (w w' : World) (e : Effect P) → SearchedAlike f code code' cs cs' Alike e → AnsweredAlike f code code' cs cs' Alike x y (begin cs w class) (begin cs' w' class) e →
+        Alike (begin cs w class) (begin cs' w' class) → (fs : List (Frame P)) (gs : List (Frame Q)) → AllStart f fs gs →
+        TK g (Turn.initialised code cs x w e class fs) (Turn.initialised code' cs' y w' (grown_effect f g.locals e) class gs)
+    initialised_kept class w w' e s k a [] gs l = rw l (taken_kept (begin cs w class) (begin cs' w' class) a e s k)
+    initialised_kept class w w' e s k a (h ∷ fs) gs l = rw l.3 (begin cs' w' class, a, _, (l.0, l.1, l.2, refl, l.4), refl)
+
+    ended_kept : (ending : Ending) (l : Link) (w' : World) (e' : Effect Q) → RefusedKept ending l → EndKept f Alike None ending (Turn.linked code' cs' y w' e' l)
+    ended_kept (Returned v) l w' e' k = rw k refl
+    ended_kept (Uncaught class message) l w' e' k = rw k refl
+    ended_kept (InitFailed class) l w' e' k = rw k refl
+    ended_kept (Exit status) l w' e' k = rw k refl
+    ended_kept (Unmodelled op) l w' e' k = rw k refl
+    ended_kept (Unresolved name) l w' e' k = rw k refl
+    ended_kept ScriptEnds l w' e' k = rw k refl
+    ended_kept events.Broken l w' e' k = tt
+
+    linked_kept : (w w' : World) → Alike w w' → (e : Effect P) → Fair f code code' cs cs' Alike x y e → (l : Link) (l' : Link) → Turn.link code cs x e ≡ l → LinkKept l l' →
+        TK g (Turn.linked code cs x w e l) (Turn.linked code' cs' y w' (grown_effect f g.locals e) l')
+    linked_kept w w' a e fair Free l' h k = rw k (taken_kept w w' a e fair.searched (fair.answered w w' a))
+    linked_kept w w' a e fair (Refused ending) l' h k = ended_kept ending l' w' (grown_effect f g.locals e) k
+    linked_kept w w' a e fair (Needs class) l' h k =
+        let b = fair.begins class h w w' a in
+        rw k (initialised_kept class w w' e fair.searched (fair.answered (begin cs w class) (begin cs' w' class) b.marked) b.marked (Turn.pending code cs w class) (Turn.pending code' cs' w' class) b.frames)
+
+    resolved_at : (w w' : World) → Alike w w' → (e : Effect P) → Fair f code code' cs cs' Alike x y e → (b : Bool) → is_broken e ≡ b →
+        TK g (if b then stops events.Broken else Turn.linked code cs x w e (Turn.link code cs x e)) (if b then stops events.Broken else Turn.linked code' cs' y w' (grown_effect f g.locals e) (Turn.link code' cs' y (grown_effect f g.locals e)))
+    resolved_at w w' a e fair true h = tt
+    resolved_at w w' a e fair false h = linked_kept w w' a e fair (Turn.link code cs x e) (Turn.link code' cs' y (grown_effect f g.locals e)) refl (link_kept e fair.searched)
+
+    pub resolved_kept : (w w' : World) → Alike w w' → (e : Effect P) → Fair f code code' cs cs' Alike x y e → TK g (Turn.resolved code cs x w e) (Turn.resolved code' cs' y w' (grown_effect f g.locals e))
+    resolved_kept w w' a e fair = rw (broken_same e) (resolved_at w w' a e fair (is_broken e) refl)
+
+    either_broken : (w w' : World) → Alike w w' → (e : Effect P) (e' : Effect Q) → Kept f g.locals e e' → Fair f code code' cs cs' Alike x y e → (b : Bool) → is_broken e ≡ b →
+        TK g (if b then stops events.Broken else Turn.linked code cs x w e (Turn.link code cs x e)) (Turn.resolved code' cs' y w' e')
+    either_broken w w' a e e' k fair true h = tt
+    either_broken w w' a e e' k fair false h =
+        let same : e' ≡ grown_effect f g.locals e = k.keeps (λ broken. absurd (let test = ap is_broken broken in cc)) in
+        subst (λ z. TK g (Turn.linked code cs x w e (Turn.link code cs x e)) (Turn.resolved code' cs' y w' z)) (sym same)
+        (rw (broken_same e, h) (linked_kept w w' a e fair (Turn.link code cs x e) (Turn.link code' cs' y (grown_effect f g.locals e)) refl (link_kept e fair.searched)))
+
+    executed_kept : (w w' : World) → Alike w w' → (o : Option Operation) → ((operation : Operation) → o ≡ Some operation → Fair f code code' cs cs' Alike x y (Turn.effect_at code cs x operation)) →
+        TK g (Turn.executed code cs x w o) (Turn.executed code' cs' y w' o)
+    executed_kept w w' a None h = tt
+    executed_kept w w' a (Some operation) h =
+        let e = Turn.effect_at code cs x operation in
+        let kept = effect_kept f g.locals g.bare (Turn.setting code cs x) g.room operation x.content.operands x.content.locals in
+        either_broken w w' a e (Turn.effect_at code' cs' y operation) (subst (λ t. Kept f g.locals e (effect (record { room = x.room + g.room; result = option_map kind_in t }) operation y.content.operands y.content.locals)) (sym same.result) kept)
+        (h operation refl) (is_broken e) refl
+
+    -- the turn of a frame whose instruction stands elsewhere, where what it asks is answered alike
+    pub turn_kept : (w w' : World) → Alike w w' → ((operation : Operation) → code.line x.place ≡ Some operation → Fair f code code' cs cs' Alike x y (Turn.effect_at code cs x operation)) →
+        TK g (Turn.turn code cs x w) (Turn.turn code' cs' y w')
+    turn_kept w w' a h = rw stands.line (executed_kept w w' a (code.line x.place) h)
