@@ -2,3 +2,4 @@
 --     effect_kept  what an instruction does is the same to a grown frame
 pub mod EffectKept
 pub mod TurnKept
+pub mod WaitingKept

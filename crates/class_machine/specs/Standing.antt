@@ -16,7 +16,7 @@ use Rattle.class_machine.specs.LibraryCalls.{Wait, Work, Results, Throws, Calls,
 use Rattle.class_machine.specs.LibraryCalls as work
 use Rattle.class_machine.specs.Natives.{Response, Returns, Lacks, respond, native_event}
 use Rattle.class_machine.specs.Natives as native
-use Rattle.class_machine.specs.Turn.{Entry, Code, Link, Needs, Frame, Turn, Stays, Completes, Enters, Leaves, Begins, Raises, Finishes, asked_link, link, pending, ruled, selection, serves_as, with_receiver}
+use Rattle.class_machine.specs.Turn.{Entry, Handler, Code, Link, Needs, Frame, Turn, Stays, Completes, Enters, Leaves, Begins, Raises, Finishes, asked_link, link, pending, ruled, selection, serves_as, with_receiver}
 use Rattle.class_machine.specs.Renaming.{grown, is_bare}
 
 -- A frame whose code is woven: its method, more room, and more locals behind its own, which hold no token.
@@ -155,3 +155,13 @@ module _ {P Q : Type 0} (f : P → Q) (code : Code P) (code' : Code Q) (cs cs' :
     pub searched : SearchedAlike e
     pub begins : (class : List ℕ) → link code cs x e ≡ Needs class → (w w' : World) → Alike w w' → BeginsAlike class w w'
     pub answered : (w w' : World) → Alike w w' → AnsweredAlike x y w w' e
+
+-- ---- exceptions
+
+module _ {P Q : Type 0} (f at : P → Q) (code : Code P) (code' : Code Q) where
+  abbrev pub moved_handler : Handler P → Handler Q
+  moved_handler h = record { catch = h.catch; place = f h.place }
+
+  -- an exception that comes up at the place goes where it went
+  pub record Handles (p : P) : Type 0 where
+    pub handlers : code'.handlers (at p) ≡ map moved_handler (code.handlers p)

@@ -97,7 +97,7 @@ module _ {P Q : Type 0} (f at : P → Q) (code : Code P) (code' : Code Q) (cs cs
     pub next_kept : (c : Content P) (w w' : World) → Alike w w' → TK g (Turn.stays code cs (code.next x.place) c w) (Turn.stays code' cs' (code'.next y.place) (gc c) w')
     next_kept c w w' a = rw stands.next (stays_kept g (code.next x.place) c w w' a)
 
-    completed_kept : (said : Option Event) (super : Bool) (c : Content P) (w w' : World) → Alike w w' →
+    pub completed_kept : (said : Option Event) (super : Bool) (c : Content P) (w w' : World) → Alike w w' →
         TK g (Turn.completes code cs said super (code.next x.place) c w) (Turn.completes code' cs' said super (code'.next y.place) (gc c) w')
     completed_kept said super c w w' a = rw stands.next (completes_kept g said super (code.next x.place) c w w' a)
 
