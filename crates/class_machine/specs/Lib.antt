@@ -24,3 +24,4 @@ pub mod Examples
 pub mod Renaming
 pub mod Laws
 pub mod Standing
+pub mod Widening
