@@ -4,3 +4,4 @@ pub mod EffectKept
 pub mod TurnKept
 pub mod WaitingKept
 pub mod Widened
+pub mod SameWorld

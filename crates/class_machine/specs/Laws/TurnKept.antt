@@ -30,7 +30,7 @@ use Rattle.class_machine.specs.Laws.EffectKept.{built-grown, effect_kept, weight
 
 -- ---- locals of a call
 
-unset-bare : (Q : Type 0) (n : ℕ) → is_bare {P = Q} (replicate n Unset) ≡ true
+pub unset-bare : (Q : Type 0) (n : ℕ) → is_bare {P = Q} (replicate n Unset) ≡ true
 unset-bare Q zero = refl
 unset-bare Q (suc n) = unset-bare Q n
 
@@ -44,7 +44,7 @@ module _ {P Q : Type 0} (f : P → Q) where
       wide_or true h hs e = ap (λ l. Holds (Plain h) ∷ Second ∷ l) e
       wide_or false h hs e = ap (λ l. Holds (Plain h) ∷ l) e
 
-  unset-grown : (n m : ℕ) → map (renamed_local f) (replicate n Unset) ++ replicate m Unset ≡ replicate (n + m) Unset
+  pub unset-grown : (n m : ℕ) → map (renamed_local f) (replicate n Unset) ++ replicate m Unset ≡ replicate (n + m) Unset
   unset-grown zero m = let e : 0 + m ≡ m = omega arith in rw e refl
   unset-grown (suc n) m = let e : suc n + m ≡ suc (n + m) = omega arith in rw e (ap (λ l. Unset ∷ l) (unset-grown n m))
 
