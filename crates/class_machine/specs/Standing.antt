@@ -6,7 +6,7 @@ use Rattle.class_machine.specs.declared.kinds.Fault.{Fault}
 use Rattle.class_machine.specs.Values.{Name, class_of, throwable_class, Held, Local}
 use Rattle.class_machine.specs.Descriptors.{result_in}
 use Rattle.class_machine.specs.Events.{Event, Ending, Returned, Uncaught, InitFailed, Exit, Unmodelled, Unresolved, ScriptEnds, Broken}
-use Rattle.class_machine.specs.Classes.{Method, Classes, is_constructor, fault_class}
+use Rattle.class_machine.specs.Classes.{Method, Classes, fault_class}
 use Rattle.class_machine.specs.World.{World, make, begin, enter_monitor}
 use Rattle.class_machine.specs.Operations.{Operation}
 use Rattle.class_machine.specs.Effect.{Effect, Ask, Announce, CallStatic, CallOn, Build, Throw}
@@ -26,11 +26,9 @@ pub record Growth (Q : Type 0) : Type 0 where
   pub locals : List (Local Q)
   pub bare : is_bare locals ≡ true
 
--- methods of one class, with results of one type, both constructors or neither
-pub record SameMethod (m n : Reference) : Type 0 where
-  pub class : n.class ≡ m.class
+-- methods with results of one type
+pub record SameResult (m n : Reference) : Type 0 where
   pub result : result_in n.member.descriptor ≡ result_in m.member.descriptor
-  pub constructor : is_constructor n ≡ is_constructor m
 
 -- ---- code
 

@@ -314,9 +314,9 @@ module _ {P : Type 0} (code : Code P) (cs : Classes) where
   runs_selected purpose f c w r a given None = stops (Unresolved (member_text r))
   runs_selected purpose f c w r a given (Some m) = runs purpose f c w r m (Some a) given
 
-  -- a constructor that is called in a constructor, on an object
-  abbrev pub purpose_of : Frame P → Bool → Reference → Purpose
-  purpose_of f special r = if special && (is_constructor r && is_constructor f.method) then Constructs else Ordinary
+  -- `invokespecial` of a constructor on an object is a this or super call
+  abbrev pub purpose_of : Bool → Reference → Purpose
+  purpose_of special r = if special && is_constructor r then Constructs else Ordinary
 
   abbrev pub selection : Frame P → Bool → Name → Method → Option Method
   selection f true a m = select_special cs f.method.class m
@@ -329,7 +329,7 @@ module _ {P : Type 0} (code : Code P) (cs : Classes) where
   abbrev pub call_on : Frame P → Content P → World → Bool → Reference → Method → List Held → Option Name → Turn P
   call_on f c w special r m given None = if is_frameless m && not (has_result_room f c m) then stops events.Broken else fails Fault.NullPointer w
   call_on f c w special r m given (Some a) =
-      if serves_as a m then runs_selected (purpose_of f special r) f c w r a given (selection f special a m) else stops events.Broken
+      if serves_as a m then runs_selected (purpose_of special r) f c w r a given (selection f special a m) else stops events.Broken
 
   -- every copy of the token becomes the object
   abbrev pub built : ℕ → Held → Content P → Content P

@@ -15,7 +15,7 @@ use Rattle.class_machine.specs.Natives.{Response, Returns, Lacks, respond}
 use Rattle.class_machine.specs.Natives as native
 use Rattle.class_machine.specs.Turn
 use Rattle.class_machine.specs.Turn.{Entry, Code, Frame}
-use Rattle.class_machine.specs.Standing.{Growth, SameMethod, Stands, EntryKept, Arrives, ReplyKept, ResponseKept, WorkKept, grown_frame, AllStart, TurnKept, Agrees, BeginsAlike, SearchedAlike, BodyAlike, AnsweredAlike, Fair}
+use Rattle.class_machine.specs.Standing.{Growth, SameResult, Stands, EntryKept, Arrives, ReplyKept, ResponseKept, WorkKept, grown_frame, AllStart, TurnKept, Agrees, BeginsAlike, SearchedAlike, BodyAlike, AnsweredAlike, Fair}
 use Rattle.class_machine.specs.Laws.TurnKept.{unset-bare, unset-grown, turn_kept}
 
 abbrev pub Same : World → World → Type 0
@@ -81,12 +81,12 @@ module _ {P Q : Type 0} (f at : P → Q) (code : Code P) (code' : Code Q) (cs : 
     loads = λ rule class e l. begins_same class w w refl;
   }
 
-  module _ (g : Growth Q) (x : Frame P) (same : SameMethod x.method g.method) where
+  module _ (g : Growth Q) (x : Frame P) (same : SameResult x.method g.method) (class : g.method.class ≡ x.method.class) where
     abbrev y : Frame Q
     y = grown_frame f at g x
 
     selection_same : (special : Bool) (a : Name) (m : Method) → Turn.selection code' cs y special a m ≡ Turn.selection code cs x special a m
-    selection_same true a m = rw same.class refl
+    selection_same true a m = rw class refl
     selection_same false a m = refl
 
     searched_same : (e : Effect P) → SearchedAlike f code code' cs cs Same e
@@ -95,10 +95,10 @@ module _ {P Q : Type 0} (f at : P → Q) (code : Code P) (code' : Code Q) (cs : 
     searched_same (Enter i c) = tt
     searched_same (Back p c) = tt
     searched_same (Ask q c) = refl
-    searched_same (Announce class c) = refl
+    searched_same (Announce made c) = refl
     searched_same (CallStatic r given c) = refl
     searched_same (CallOn special r z given c) = refl
-    searched_same (Build r class number given c) = refl
+    searched_same (Build r made number given c) = refl
     searched_same (Leave v) = tt
     searched_same (Fail fault) = tt
     searched_same (Throw z) = tt
@@ -111,11 +111,11 @@ module _ {P Q : Type 0} (f at : P → Q) (code : Code P) (code' : Code Q) (cs : 
     answered_here w (Enter i c) = tt
     answered_here w (Back p c) = tt
     answered_here w (Ask q c) = reply_same (answer cs w q)
-    answered_here w (Announce class c) = tt
+    answered_here w (Announce made c) = tt
     answered_here w (CallStatic r given c) = λ m e. body_same w m None given
     answered_here w (CallOn special r None given c) = tt
     answered_here w (CallOn special r (Some z) given c) = λ m e. (refl, selection_same special z m, λ s h. body_same w s (Some z) given)
-    answered_here w (Build r class number given c) = λ m e. (refl, (make cs w class).1, refl, refl, body_same ((make cs w class).1) m (Some ((make cs w class).0)) given)
+    answered_here w (Build r made number given c) = λ m e. (refl, (make cs w made).1, refl, refl, body_same ((make cs w made).1) m (Some ((make cs w made).0)) given)
     answered_here w (Leave v) = tt
     answered_here w (Fail fault) = tt
     answered_here w (Throw z) = refl
@@ -125,7 +125,7 @@ module _ {P Q : Type 0} (f at : P → Q) (code : Code P) (code' : Code Q) (cs : 
     pub fair_same : (e : Effect P) → Fair f code code' cs cs Same x y e
     fair_same e = record {
       searched = searched_same e;
-      begins = λ class needs w w' a. begins_same class w w' a;
+      begins = λ needed needs w w' a. begins_same needed w w' a;
       answered = λ w w' a. subst (λ v. AnsweredAlike f code code' cs cs Same x y w v e) a (answered_here w e);
     }
 

@@ -25,7 +25,7 @@ use Rattle.class_machine.specs.Natives as native
 use Rattle.class_machine.specs.Turn
 use Rattle.class_machine.specs.Turn.{Entry, Code, Link, Free, Refused, Needs, Purpose, Ordinary, Within, Frame, Turn, Stays, Completes, Enters, Leaves, Begins, Raises, Finishes, stops, is_frameless, lock_of, entering, with_receiver, filled}
 use Rattle.class_machine.specs.Renaming.{renamed, renamed_local, more_locals, grown, grown_effect, Kept, is_bare}
-use Rattle.class_machine.specs.Standing.{Growth, SameMethod, Stands, EntryKept, Arrives, ReplyKept, MadeKept, ResponseKept, WorkKept, grown_frame, AllStart, EndKept, TurnKept, Agrees, BeginsAlike, SearchedAlike, BodyAlike, AnsweredAlike, Fair}
+use Rattle.class_machine.specs.Standing.{Growth, SameResult, Stands, EntryKept, Arrives, ReplyKept, MadeKept, ResponseKept, WorkKept, grown_frame, AllStart, EndKept, TurnKept, Agrees, BeginsAlike, SearchedAlike, BodyAlike, AnsweredAlike, Fair}
 use Rattle.class_machine.specs.Laws.EffectKept.{built-grown, effect_kept, weight-rs}
 
 -- ---- locals of a call
@@ -87,7 +87,7 @@ module _ {P Q : Type 0} (f at : P → Q) (code : Code P) (code' : Code Q) (cs cs
 
   -- ---- calls
 
-  module _ (g : Growth Q) (x : Frame P) (stands : Stands f at code code' x.place) (same : SameMethod x.method g.method) where
+  module _ (g : Growth Q) (x : Frame P) (stands : Stands f at code code' x.place) (same : SameResult x.method g.method) where
     abbrev y : Frame Q
     y = grown_frame f at g x
 
@@ -204,15 +204,12 @@ module _ {P Q : Type 0} (f at : P → Q) (code : Code P) (code' : Code Q) (cs cs
     either_kept true t t' k = k
     either_kept false t t' k = tt
 
-    purpose_same : (special : Bool) (r : Reference) → Turn.purpose_of code' cs' y special r ≡ Turn.purpose_of code cs x special r
-    purpose_same special r = rw same.constructor refl
-
     on_kept : (c : Content P) (w w' : World) → Alike w w' → (special : Bool) (r : Reference) (z : Name) (given : List Held) (m : Method) →
         Turn.serves_as code' cs' z m ≡ Turn.serves_as code cs z m → Turn.selection code' cs' y special z m ≡ Turn.selection code cs x special z m →
         ((s : Method) → Turn.selection code cs x special z m ≡ Some s → BodyAlike f code code' cs cs' Alike w w' s (Some z) given) →
         TK g (Turn.call_on code cs x c w special r m given (Some z)) (Turn.call_on code' cs' y (gc c) w' special r m given (Some z))
     on_kept c w w' a special r z given m serves selects h =
-        rw (serves, selects, purpose_same special r) (either_kept (Turn.serves_as code cs z m) _ _ (selected_kept (Turn.purpose_of code cs x special r) c w w' a r z given (Turn.selection code cs x special z m) h))
+        rw (serves, selects) (either_kept (Turn.serves_as code cs z m) _ _ (selected_kept (Turn.purpose_of code cs special r) c w w' a r z given (Turn.selection code cs x special z m) h))
 
     null_kept : (c : Content P) (w w' : World) → Alike w w' → (special : Bool) (r : Reference) (given : List Held) (m : Method) →
         TK g (Turn.call_on code cs x c w special r m given None) (Turn.call_on code' cs' y (gc c) w' special r m given None)

@@ -13,7 +13,7 @@ use Rattle.class_machine.specs.Turn
 use Rattle.class_machine.specs.Turn.{Handler, Code, Frame, Turn, stops, Ordinary, Constructs, Within}
 use Rattle.class_machine.specs.Machine
 use Rattle.class_machine.specs.Renaming.{grown}
-use Rattle.class_machine.specs.Standing.{Growth, SameMethod, Stands, Handles, moved_handler, Arrives, WorkKept, grown_frame, TurnKept, Agrees, BeginsAlike}
+use Rattle.class_machine.specs.Standing.{Growth, SameResult, Stands, Handles, moved_handler, Arrives, WorkKept, grown_frame, TurnKept, Agrees, BeginsAlike}
 use Rattle.class_machine.specs.Laws.EffectKept.{weight-rs}
 use Rattle.class_machine.specs.Laws.TurnKept.{stays_kept, next_kept, completed_kept, worked_kept}
 
@@ -21,7 +21,7 @@ module _ {P Q : Type 0} (f at : P → Q) (code : Code P) (code' : Code Q) (cs cs
   abbrev TK : Growth Q → Turn P → Turn Q → Type 0
   TK = TurnKept f Alike
 
-  module _ (g : Growth Q) (x : Frame P) (stands : Stands f at code code' x.place) (same : SameMethod x.method g.method) where
+  module _ (g : Growth Q) (x : Frame P) (stands : Stands f at code code' x.place) (same : SameResult x.method g.method) where
     abbrev y : Frame Q
     y = grown_frame f at g x
 
