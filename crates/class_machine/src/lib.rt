@@ -14,3 +14,4 @@
 
 pub mod kinds;
 pub mod meaning;
+pub mod table;
