@@ -1,5 +1,5 @@
 -- The code and the declarations of class files (JVMS 4 and 6). A place is a byte of a method's code.
-use Rattle.std.specs.Prelude.{ℕ, ◌+◌, ◌&&◌, Bool, true, false, if◌then◌else◌, bit_and, nat_le, nat_lt, ◌==◌, List, [], ◌∷◌, ◌++◌, map, codes, slice_get, Option, Some, None, Ok, Err, option_and_then, ℤ, pos, negsuc, ◌+ℤ◌, is_some}
+use Rattle.std.specs.Prelude.{ℕ, ◌+◌, ◌&&◌, Bool, false, if◌then◌else◌, bit_and, nat_le, nat_lt, ◌==◌, List, [], ◌∷◌, map, slice_get, Option, Some, None, Ok, Err, option_and_then, ℤ, pos, negsuc, ◌+ℤ◌}
 use Rattle.std.specs.List.{filter, find, filter_map}
 use Rattle.std.specs.Option.{option_map, unwrap_or}
 use Rattle.std.specs.Str.{bytes_eq}
@@ -15,7 +15,7 @@ use Rattle.class_file.specs.declared.types.Content.{Content}
 use Rattle.class_file.specs.declared.types.Content.TheVariants as attribute
 use Rattle.class_file.specs.declared.types.CodeAttr.{CodeAttr}
 use Rattle.class_file.specs.declared.types.ExceptionEntry.{ExceptionEntry}
-use Rattle.class_file.specs.Pool.{NamedType, Reference, text_at, class_at, string_at, field_at, method_at, entry_at, referred, this_name, super_name, member_type}
+use Rattle.class_file.specs.Pool.{NamedType, Reference, text_at, class_at, field_at, method_at, entry_at, referred, this_name, super_name, member_type}
 use Rattle.class_file.specs.Code.{numbered, offsets}
 use Rattle.class_machine.specs.declared.kinds.Element.{Element}
 use Rattle.class_machine.specs.declared.kinds.Mode.{Mode}

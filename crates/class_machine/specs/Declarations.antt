@@ -6,12 +6,12 @@ use Rattle.std.specs.Option.{option_map, unwrap_or}
 use Rattle.std.specs.Str.{bytes_eq}
 use Rattle.class_file.specs.Pool.{NamedType, Reference}
 use Rattle.class_machine.specs.declared.kinds.Element.{Element}
-use Rattle.class_machine.specs.Values.{object_class, throwable_class, Held, Null, Reference as Pointer}
+use Rattle.class_machine.specs.Values.{throwable_class, Held, Reference as Pointer}
 use Rattle.class_machine.specs.Descriptors.{blank, element_of, is_array, before_semicolon}
 use Rattle.class_machine.specs.Rules.{Rule}
 use Rattle.class_machine.specs.Classes.{same_type, Field, Method, Classes}
 use Rattle.class_machine.specs.World.{message_field, cause_field, value_field, box_class}
-use Rattle.class_machine.specs.Library.{LibraryMethod, LibraryClass, system_class}
+use Rattle.class_machine.specs.Library.{LibraryMethod, LibraryClass}
 use Rattle.class_machine.specs.Start.{output}
 
 pub record DeclaredField : Type 0 where

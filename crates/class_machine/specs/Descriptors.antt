@@ -1,5 +1,5 @@
 -- The types that descriptors name (JVMS 4.3.2, 4.3.3), each by its own descriptor.
-use Rattle.std.specs.Prelude.{ℕ, ◌+◌, ◌==◌, ◌%◌, ◌&&◌, ◌||◌, Bool, true, false, if◌then◌else◌, List, [], ◌∷◌, ◌++◌, drop, reverse, Option, Some, None, ℤ, pos, int_lt, codes, option_and_then}
+use Rattle.std.specs.Prelude.{ℕ, ◌==◌, ◌%◌, Bool, true, false, if◌then◌else◌, List, [], ◌∷◌, ◌++◌, drop, Option, Some, None, ℤ, pos}
 use Rattle.std.specs.Int.{w8, w16, w32, cast_unsigned}
 use Rattle.class_machine.specs.declared.kinds.Kind.{Kind}
 use Rattle.class_machine.specs.declared.kinds.Element.{Element}

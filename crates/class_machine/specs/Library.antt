@@ -1,6 +1,6 @@
 -- The classes of the library, with their members and the rule of each method. A class without a superclass extends
 -- java.lang.Object. Members are public.
-use Rattle.std.specs.Prelude.{ℕ, Bool, true, false, List, [], ◌∷◌, ◌++◌, map, codes, Option, Some, None}
+use Rattle.std.specs.Prelude.{ℕ, Bool, true, false, List, [], ◌∷◌, ◌++◌, codes, Option, Some, None}
 use Rattle.class_machine.specs.declared.kinds.Element.{Element}
 use Rattle.class_machine.specs.Values.{object_class, class_class, string_class, throwable_class, print_stream_class}
 use Rattle.class_machine.specs.Descriptors.{primitive}
@@ -42,7 +42,6 @@ interface name = record { name = name; super_class = Some object_class; is_inter
 
 abbrev pub constructor : List ℕ
 constructor = codes "<init>"
-
 
 abbrev pub to_string_of : Rule → LibraryMethod
 to_string_of r = instance (codes "toString") (codes "()Ljava/lang/String;") r

@@ -1,15 +1,15 @@
 -- What a call of a library method does. It is one step, except that a call of toString or getMessage within it that
 -- selects a method of a class outside the library pushes the frame of that method, and the library call ends as it
 -- returns.
-use Rattle.std.specs.Prelude.{ℕ, zero, suc, ◌+◌, ◌-◌, ◌*◌, ◌/◌, ◌%◌, ◌^◌, ◌==◌, ◌&&◌, Bool, true, false, if◌then◌else◌, List, [], ◌∷◌, ◌++◌, length, take, drop, codes, slice_get, nat_le, bit_xor, Option, Some, None, ℤ, pos, negsuc}
+use Rattle.std.specs.Prelude.{ℕ, ◌+◌, ◌-◌, ◌*◌, ◌/◌, ◌%◌, ◌^◌, ◌==◌, ◌&&◌, Bool, true, false, if◌then◌else◌, List, [], ◌∷◌, ◌++◌, length, take, drop, codes, slice_get, nat_le, bit_xor, Option, Some, None, ℤ, pos, negsuc}
 use Rattle.std.specs.Option.{unwrap_or}
 use Rattle.std.specs.Str.{bytes_eq}
-use Rattle.std.specs.Int.{w32, w64, cast_signed, cast_unsigned}
+use Rattle.std.specs.Int.{w32, w64, cast_unsigned}
 use Rattle.class_file.specs.Pool.{NamedType}
 use Rattle.class_machine.specs.declared.kinds.Element.{Element}
 use Rattle.class_machine.specs.declared.kinds.Fault.{Fault}
 use Rattle.class_machine.specs.Values.{Name, ClassObject, class_of, number_of, same_name, string_class, throwable_class, Held, Int, Long, Float, Double, Null, Reference as Pointer, held_reference}
-use Rattle.class_machine.specs.Numbers.{low_unsigned, count_int, same_int, decimal, hexadecimal}
+use Rattle.class_machine.specs.Numbers.{count_int, same_int, decimal, hexadecimal}
 use Rattle.class_machine.specs.Descriptors.{low_bits, narrowed}
 use Rattle.class_machine.specs.Texts.{class_text, class_of_text, is_unfit}
 use Rattle.class_machine.specs.Events.{Event}

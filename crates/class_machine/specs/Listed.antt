@@ -1,19 +1,18 @@
 -- Programs whose code is given as lists of instructions, for worked examples. A place is a number in the list of a method.
-use Rattle.std.specs.Prelude.{ℕ, ◌+◌, ◌&&◌, Bool, true, false, List, [], ◌∷◌, ◌++◌, map, nat_le, nat_lt, slice_get, codes, Option, Some, None, option_and_then}
+use Rattle.std.specs.Prelude.{ℕ, ◌+◌, ◌&&◌, Bool, true, false, List, [], ◌∷◌, ◌++◌, map, nat_le, nat_lt, slice_get, Option, Some, None, option_and_then}
 use Rattle.std.specs.List.{find, filter, flat_map}
 use Rattle.std.specs.Option.{option_map, unwrap_or}
-use Rattle.std.specs.Str.{bytes_eq}
 use Rattle.event_machine.specs.Observation.{Observation, observed}
 use Rattle.class_file.specs.Pool.{NamedType, Reference}
 use Rattle.class_machine.specs.Values.{object_class}
 use Rattle.class_machine.specs.Events.{Event, Ending, Answer}
-use Rattle.class_machine.specs.Classes.{reference, same_member, Method, Classes}
+use Rattle.class_machine.specs.Classes.{same_member, Method, Classes}
 use Rattle.class_machine.specs.Operations.{Operation}
 use Rattle.class_machine.specs.Library.{library}
 use Rattle.class_machine.specs.Declarations.{DeclaredField, DeclaredMethod, DeclaredClass, classes_of, method_in, library_class}
 use Rattle.class_machine.specs.Searches.{searched}
 use Rattle.class_machine.specs.Turn.{Entry, Handler, Code}
-use Rattle.class_machine.specs.Machine.{State, step}
+use Rattle.class_machine.specs.Machine.{step}
 use Rattle.class_machine.specs.Start.{EntryArgument, start}
 
 -- an instruction with its targets

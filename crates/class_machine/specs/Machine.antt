@@ -6,7 +6,7 @@ use Rattle.event_machine.specs.Outcome.{Outcome, Went, Said, Ended}
 use Rattle.class_file.specs.Pool.{Reference}
 use Rattle.class_machine.specs.Values.{Name, class_of, Held, Reference as Pointer, held_width, Plain, Content, content, pushed_on, has_room}
 use Rattle.class_machine.specs.Events.{Event, Ending, Returned, Uncaught, InitFailed, ScriptEnds, Broken}
-use Rattle.class_machine.specs.Classes.{Method, Classes}
+use Rattle.class_machine.specs.Classes.{Classes}
 use Rattle.class_machine.specs.World.{World, shown, message_of, leave_monitor}
 use Rattle.class_machine.specs.LibraryCalls.{Wait, resume}
 use Rattle.class_machine.specs.Natives.{Response, Returns, Throws, Lacks, respond, native_event}

@@ -1,12 +1,12 @@
 -- Native calls (JVMS 2.10.3): each takes the next answer of the script, which is to fit the type of its result.
-use Rattle.std.specs.Prelude.{ℕ, Bool, true, false, if◌then◌else◌, List, [], ◌∷◌, map, Option, Some, None, ℤ}
+use Rattle.std.specs.Prelude.{ℕ, Bool, true, false, List, [], ◌∷◌, map, Option, Some, None, ℤ}
 use Rattle.class_file.specs.Pool.{Reference}
 use Rattle.class_machine.specs.declared.kinds.Element.{Element}
 use Rattle.class_machine.specs.Values.{Name, string_class, throwable_class, Held, Int, Long, Null, Reference as Pointer}
 use Rattle.class_machine.specs.Numbers.{same_int}
 use Rattle.class_machine.specs.Descriptors.{element_of, low_bits, class_in, result_in}
 use Rattle.class_machine.specs.Classes.{Classes}
-use Rattle.class_machine.specs.World.{Text, World, shown, add, add_text, make, message_field, write_field}
+use Rattle.class_machine.specs.World.{World, shown, add_text, make, message_field, write_field}
 use Rattle.class_machine.specs.Events.{Event, Native, Answer}
 use Rattle.class_machine.specs.Events as events
 

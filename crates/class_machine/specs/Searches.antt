@@ -1,10 +1,10 @@
 -- The searches over a list of declarations (JVMS 2.6.7, 2.8, 5.4.3). Of a list in which no class is a supertype of itself,
 -- no way upward is longer than the list.
-use Rattle.std.specs.Prelude.{ℕ, zero, suc, ◌==◌, ◌&&◌, ◌||◌, Bool, true, false, not, if◌then◌else◌, List, [], ◌∷◌, ◌++◌, codes, drop, length, Option, Some, None, is_some, option_and_then}
+use Rattle.std.specs.Prelude.{ℕ, zero, suc, ◌==◌, ◌&&◌, ◌||◌, Bool, false, not, if◌then◌else◌, List, [], ◌∷◌, ◌++◌, codes, drop, length, Option, Some, None, is_some, option_and_then}
 use Rattle.std.specs.List.{find, filter, flat_map}
 use Rattle.std.specs.Option.{option_to_list}
 use Rattle.std.specs.Str.{bytes_eq}
-use Rattle.class_file.specs.Pool.{NamedType, Reference}
+use Rattle.class_file.specs.Pool.{NamedType}
 use Rattle.class_machine.specs.Values.{object_class}
 use Rattle.class_machine.specs.Descriptors.{is_array, descriptor_of, before_semicolon}
 use Rattle.class_machine.specs.Classes.{Method, is_among}

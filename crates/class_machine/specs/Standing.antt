@@ -1,14 +1,13 @@
 -- What the law of one step speaks of: code whose instructions stand elsewhere, maybe with others among them; class tables
 -- and worlds that answer alike what an instruction asks.
-use Rattle.std.specs.Prelude.{◌≡◌, ℕ, ◌+◌, Bool, true, List, [], ◌∷◌, map, Option, Some, None, is_some}
+use Rattle.std.specs.Prelude.{◌≡◌, ℕ, ◌+◌, true, List, [], ◌∷◌, map, Option, Some, None, is_some}
 use Rattle.class_file.specs.Pool.{Reference}
 use Rattle.class_machine.specs.declared.kinds.Fault.{Fault}
 use Rattle.class_machine.specs.Values.{Name, class_of, throwable_class, Held, Local}
 use Rattle.class_machine.specs.Descriptors.{result_in}
-use Rattle.class_machine.specs.Events.{Event, Ending, Returned, Uncaught, InitFailed, Exit, Unmodelled, Unresolved, ScriptEnds, Broken}
+use Rattle.class_machine.specs.Events.{Event, Ending, Broken}
 use Rattle.class_machine.specs.Classes.{Method, Classes, fault_class}
 use Rattle.class_machine.specs.World.{World, make, begin, enter_monitor}
-use Rattle.class_machine.specs.Operations.{Operation}
 use Rattle.class_machine.specs.Effect.{Effect, Ask, Announce, CallStatic, CallOn, Build, Throw}
 use Rattle.class_machine.specs.Answers.{Reply, Gives, Done, Faults, Refuses, answer}
 use Rattle.class_machine.specs.Rules.{Rule}
@@ -16,7 +15,7 @@ use Rattle.class_machine.specs.LibraryCalls.{Wait, Work, Results, Throws, Calls,
 use Rattle.class_machine.specs.LibraryCalls as work
 use Rattle.class_machine.specs.Natives.{Response, Returns, Lacks, respond, native_event}
 use Rattle.class_machine.specs.Natives as native
-use Rattle.class_machine.specs.Turn.{Entry, Handler, Code, Link, Needs, Frame, Turn, Stays, Completes, Enters, Leaves, Begins, Raises, Finishes, asked_link, link, pending, ruled, selection, serves_as, with_receiver}
+use Rattle.class_machine.specs.Turn.{Entry, Handler, Code, Needs, Frame, Turn, Stays, Completes, Enters, Leaves, Begins, Raises, Finishes, asked_link, link, pending, ruled, selection, serves_as, with_receiver}
 use Rattle.class_machine.specs.Renaming.{grown, is_bare}
 
 -- A frame whose code is woven: its method, more room, and more locals behind its own, which hold no token.

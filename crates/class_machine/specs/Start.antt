@@ -1,7 +1,6 @@
 -- How a run starts at an entry method (JVMS 2.17.1): as an invokestatic of it does, but without a step. The first state has
 -- the entry's frame and above it those of the initialisers that are pending.
-use Rattle.std.specs.Prelude.{ℕ, Bool, if◌then◌else◌, nat_le, List, [], ◌∷◌, ◌++◌, codes, Option, Some, None, ℤ}
-use Rattle.class_file.specs.Pool.{Reference}
+use Rattle.std.specs.Prelude.{ℕ, if◌then◌else◌, nat_le, List, [], ◌∷◌, ◌++◌, Option, Some, None, ℤ}
 use Rattle.class_machine.specs.Values.{Name, Made, print_stream_class, string_class, Held, Reference as Pointer, arguments_width}
 use Rattle.class_machine.specs.Values as values
 use Rattle.class_machine.specs.Descriptors.{array_of}

@@ -1,5 +1,5 @@
 -- Texts of UTF-16 units, and names of classes as texts.
-use Rattle.std.specs.Prelude.{ℕ, ◌+◌, ◌*◌, ◌%◌, ◌==◌, ◌||◌, Bool, true, false, if◌then◌else◌, nat_lt, nat_eq, List, [], ◌∷◌, map, codes}
+use Rattle.std.specs.Prelude.{ℕ, ◌+◌, ◌*◌, ◌%◌, ◌==◌, ◌||◌, Bool, false, if◌then◌else◌, nat_lt, nat_eq, List, [], ◌∷◌, map, codes}
 use Rattle.std.specs.List.{list_any, starts_with}
 use Rattle.aj_names.specs.ModifiedUtf8.{text_spelling}
 use Rattle.class_machine.specs.Classes.{dotted}

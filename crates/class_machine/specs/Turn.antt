@@ -1,11 +1,11 @@
 -- What an instruction makes of its frame (JVMS 3.6, 5.5, 6). The code and its places are a parameter, and so are the
 -- classes. The order within a step: Broken by the effect; what the instruction names and the search doesn't find; pending
 -- initialisers; null; Broken by the class of an object; selection; all else.
-use Rattle.std.specs.Prelude.{ℕ, ◌+◌, ◌&&◌, ◌||◌, Bool, true, false, not, if◌then◌else◌, List, [], ◌∷◌, ◌++◌, length, map, replicate, is_some, nat_le, ◌-◌, Option, Some, None, ℤ}
+use Rattle.std.specs.Prelude.{ℕ, ◌&&◌, ◌||◌, Bool, true, false, not, if◌then◌else◌, List, [], ◌∷◌, ◌++◌, map, replicate, is_some, nat_le, ◌-◌, Option, Some, None}
 use Rattle.std.specs.Option.{option_map}
 use Rattle.class_file.specs.Pool.{Reference}
 use Rattle.class_machine.specs.declared.kinds.Fault.{Fault}
-use Rattle.class_machine.specs.Values.{Name, ClassObject, class_of, throwable_class, Held, Reference as Pointer, arguments_width, Value, Plain, ReturnAddress, Local, Unset, Content, content, pushed_on, has_room, kind_width, argument_locals, filled_in, filled_local}
+use Rattle.class_machine.specs.Values.{Name, ClassObject, class_of, throwable_class, Held, Reference as Pointer, arguments_width, Plain, ReturnAddress, Local, Unset, Content, content, pushed_on, has_room, kind_width, argument_locals, filled_in, filled_local}
 use Rattle.class_machine.specs.Descriptors.{kind_in, is_array, result_in}
 use Rattle.class_machine.specs.Events.{Event, Ending, Exit, Unresolved, Unmodelled, ScriptEnds}
 use Rattle.class_machine.specs.Events as events

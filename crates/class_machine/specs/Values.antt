@@ -1,6 +1,6 @@
 -- What code computes with (JVMS 3.3, 3.4, 3.6, 3.11.1). Fields, elements, arguments and results hold plain
 -- values. Operands and locals hold tokens of objects that aren't made yet and return addresses too.
-use Rattle.std.specs.Prelude.{max, ℕ, ◌+◌, ◌==◌, ◌&&◌, Bool, true, false, not, if◌then◌else◌, List, [], ◌∷◌, ◌++◌, codes, replicate, Option, Some, None, ℤ, nat_le}
+use Rattle.std.specs.Prelude.{max, ℕ, ◌+◌, ◌==◌, ◌&&◌, Bool, true, false, if◌then◌else◌, List, [], ◌∷◌, codes, Option, Some, None, ℤ, nat_le}
 use Rattle.std.specs.Str.{bytes_eq}
 use Rattle.class_machine.specs.declared.kinds.Kind.{Kind}
 

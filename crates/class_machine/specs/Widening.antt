@@ -1,5 +1,5 @@
 -- A test whose target is far: the opposite test over a jump.
-use Rattle.std.specs.Prelude.{◌≡◌, ℕ, ◌⊎◌, not, Option, Some, None}
+use Rattle.std.specs.Prelude.{◌≡◌, ◌⊎◌, not, Option, Some, None}
 use Rattle.class_machine.specs.declared.meaning.Basic.{Basic}
 use Rattle.class_machine.specs.Numbers.{opposite}
 use Rattle.class_machine.specs.Events as events

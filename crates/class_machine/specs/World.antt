@@ -1,11 +1,11 @@
 -- What all frames share: the heap, the static fields, the classes whose initialisation has begun, the monitors and the
 -- answers that are left (JVMS 3.5).
-use Rattle.std.specs.Prelude.{ℕ, zero, suc, ◌+◌, ◌-◌, ◌==◌, ◌||◌, Bool, if◌then◌else◌, List, [], ◌∷◌, ◌++◌, map, codes, Option, Some, None, option_and_then}
+use Rattle.std.specs.Prelude.{ℕ, suc, ◌-◌, ◌||◌, Bool, if◌then◌else◌, List, [], ◌∷◌, map, codes, Option, Some, None}
 use Rattle.std.specs.Option.{unwrap_or}
 use Rattle.std.specs.Str.{bytes_eq}
 use Rattle.class_file.specs.Pool.{Reference}
 use Rattle.class_machine.specs.declared.kinds.Element.{Element}
-use Rattle.class_machine.specs.Values.{Name, Made, Literal, ClassObject, class_of, same_name, string_class, throwable_class, print_stream_class, Held, Int, Long, Float, Double, Null, Reference as Pointer}
+use Rattle.class_machine.specs.Values.{Name, Made, Literal, ClassObject, class_of, same_name, string_class, throwable_class, Held, Int, Long, Float, Double, Null, Reference as Pointer}
 use Rattle.class_machine.specs.Descriptors.{blank, element_of, is_array, primitive}
 use Rattle.class_machine.specs.Classes.{reference, same_member, Classes, marked}
 use Rattle.class_machine.specs.Events.{Answer, Shown}

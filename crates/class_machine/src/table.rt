@@ -110,28 +110,88 @@ static MEANINGS: [Option<Meaning>; 202] = [
     Some(Meaning::Basic(Basic::Swap)), // 95 swap
     Some(Meaning::Basic(Basic::IntBinary(Binary::Add))), // 96 iadd
     Some(Meaning::Basic(Basic::LongBinary(Binary::Add))), // 97 ladd
-    Some(Meaning::Basic(Basic::Unmodelled { op: 98, from: Kind::Float, both: true, to: Kind::Float })), // 98 fadd
-    Some(Meaning::Basic(Basic::Unmodelled { op: 99, from: Kind::Double, both: true, to: Kind::Double })), // 99 dadd
+    Some(Meaning::Basic(Basic::Unmodelled {
+        op: 98,
+        from: Kind::Float,
+        both: true,
+        to: Kind::Float,
+    })), // 98 fadd
+    Some(Meaning::Basic(Basic::Unmodelled {
+        op: 99,
+        from: Kind::Double,
+        both: true,
+        to: Kind::Double,
+    })), // 99 dadd
     Some(Meaning::Basic(Basic::IntBinary(Binary::Subtract))), // 100 isub
     Some(Meaning::Basic(Basic::LongBinary(Binary::Subtract))), // 101 lsub
-    Some(Meaning::Basic(Basic::Unmodelled { op: 102, from: Kind::Float, both: true, to: Kind::Float })), // 102 fsub
-    Some(Meaning::Basic(Basic::Unmodelled { op: 103, from: Kind::Double, both: true, to: Kind::Double })), // 103 dsub
+    Some(Meaning::Basic(Basic::Unmodelled {
+        op: 102,
+        from: Kind::Float,
+        both: true,
+        to: Kind::Float,
+    })), // 102 fsub
+    Some(Meaning::Basic(Basic::Unmodelled {
+        op: 103,
+        from: Kind::Double,
+        both: true,
+        to: Kind::Double,
+    })), // 103 dsub
     Some(Meaning::Basic(Basic::IntBinary(Binary::Multiply))), // 104 imul
     Some(Meaning::Basic(Basic::LongBinary(Binary::Multiply))), // 105 lmul
-    Some(Meaning::Basic(Basic::Unmodelled { op: 106, from: Kind::Float, both: true, to: Kind::Float })), // 106 fmul
-    Some(Meaning::Basic(Basic::Unmodelled { op: 107, from: Kind::Double, both: true, to: Kind::Double })), // 107 dmul
+    Some(Meaning::Basic(Basic::Unmodelled {
+        op: 106,
+        from: Kind::Float,
+        both: true,
+        to: Kind::Float,
+    })), // 106 fmul
+    Some(Meaning::Basic(Basic::Unmodelled {
+        op: 107,
+        from: Kind::Double,
+        both: true,
+        to: Kind::Double,
+    })), // 107 dmul
     Some(Meaning::Basic(Basic::IntDivide(Division::Quotient))), // 108 idiv
     Some(Meaning::Basic(Basic::LongDivide(Division::Quotient))), // 109 ldiv
-    Some(Meaning::Basic(Basic::Unmodelled { op: 110, from: Kind::Float, both: true, to: Kind::Float })), // 110 fdiv
-    Some(Meaning::Basic(Basic::Unmodelled { op: 111, from: Kind::Double, both: true, to: Kind::Double })), // 111 ddiv
+    Some(Meaning::Basic(Basic::Unmodelled {
+        op: 110,
+        from: Kind::Float,
+        both: true,
+        to: Kind::Float,
+    })), // 110 fdiv
+    Some(Meaning::Basic(Basic::Unmodelled {
+        op: 111,
+        from: Kind::Double,
+        both: true,
+        to: Kind::Double,
+    })), // 111 ddiv
     Some(Meaning::Basic(Basic::IntDivide(Division::Remainder))), // 112 irem
     Some(Meaning::Basic(Basic::LongDivide(Division::Remainder))), // 113 lrem
-    Some(Meaning::Basic(Basic::Unmodelled { op: 114, from: Kind::Float, both: true, to: Kind::Float })), // 114 frem
-    Some(Meaning::Basic(Basic::Unmodelled { op: 115, from: Kind::Double, both: true, to: Kind::Double })), // 115 drem
+    Some(Meaning::Basic(Basic::Unmodelled {
+        op: 114,
+        from: Kind::Float,
+        both: true,
+        to: Kind::Float,
+    })), // 114 frem
+    Some(Meaning::Basic(Basic::Unmodelled {
+        op: 115,
+        from: Kind::Double,
+        both: true,
+        to: Kind::Double,
+    })), // 115 drem
     Some(Meaning::Basic(Basic::IntNegate)), // 116 ineg
     Some(Meaning::Basic(Basic::LongNegate)), // 117 lneg
-    Some(Meaning::Basic(Basic::Unmodelled { op: 118, from: Kind::Float, both: false, to: Kind::Float })), // 118 fneg
-    Some(Meaning::Basic(Basic::Unmodelled { op: 119, from: Kind::Double, both: false, to: Kind::Double })), // 119 dneg
+    Some(Meaning::Basic(Basic::Unmodelled {
+        op: 118,
+        from: Kind::Float,
+        both: false,
+        to: Kind::Float,
+    })), // 118 fneg
+    Some(Meaning::Basic(Basic::Unmodelled {
+        op: 119,
+        from: Kind::Double,
+        both: false,
+        to: Kind::Double,
+    })), // 119 dneg
     Some(Meaning::Basic(Basic::IntShift(Shift::Left))), // 120 ishl
     Some(Meaning::Basic(Basic::LongShift(Shift::Left))), // 121 lshl
     Some(Meaning::Basic(Basic::IntShift(Shift::Right))), // 122 ishr
@@ -146,25 +206,95 @@ static MEANINGS: [Option<Meaning>; 202] = [
     Some(Meaning::Basic(Basic::LongBinary(Binary::Xor))), // 131 lxor
     Some(Meaning::Increment), // 132 iinc
     Some(Meaning::Basic(Basic::Convert(Conversion::IntToLong))), // 133 i2l
-    Some(Meaning::Basic(Basic::Unmodelled { op: 134, from: Kind::Int, both: false, to: Kind::Float })), // 134 i2f
-    Some(Meaning::Basic(Basic::Unmodelled { op: 135, from: Kind::Int, both: false, to: Kind::Double })), // 135 i2d
+    Some(Meaning::Basic(Basic::Unmodelled {
+        op: 134,
+        from: Kind::Int,
+        both: false,
+        to: Kind::Float,
+    })), // 134 i2f
+    Some(Meaning::Basic(Basic::Unmodelled {
+        op: 135,
+        from: Kind::Int,
+        both: false,
+        to: Kind::Double,
+    })), // 135 i2d
     Some(Meaning::Basic(Basic::Convert(Conversion::LongToInt))), // 136 l2i
-    Some(Meaning::Basic(Basic::Unmodelled { op: 137, from: Kind::Long, both: false, to: Kind::Float })), // 137 l2f
-    Some(Meaning::Basic(Basic::Unmodelled { op: 138, from: Kind::Long, both: false, to: Kind::Double })), // 138 l2d
-    Some(Meaning::Basic(Basic::Unmodelled { op: 139, from: Kind::Float, both: false, to: Kind::Int })), // 139 f2i
-    Some(Meaning::Basic(Basic::Unmodelled { op: 140, from: Kind::Float, both: false, to: Kind::Long })), // 140 f2l
-    Some(Meaning::Basic(Basic::Unmodelled { op: 141, from: Kind::Float, both: false, to: Kind::Double })), // 141 f2d
-    Some(Meaning::Basic(Basic::Unmodelled { op: 142, from: Kind::Double, both: false, to: Kind::Int })), // 142 d2i
-    Some(Meaning::Basic(Basic::Unmodelled { op: 143, from: Kind::Double, both: false, to: Kind::Long })), // 143 d2l
-    Some(Meaning::Basic(Basic::Unmodelled { op: 144, from: Kind::Double, both: false, to: Kind::Float })), // 144 d2f
+    Some(Meaning::Basic(Basic::Unmodelled {
+        op: 137,
+        from: Kind::Long,
+        both: false,
+        to: Kind::Float,
+    })), // 137 l2f
+    Some(Meaning::Basic(Basic::Unmodelled {
+        op: 138,
+        from: Kind::Long,
+        both: false,
+        to: Kind::Double,
+    })), // 138 l2d
+    Some(Meaning::Basic(Basic::Unmodelled {
+        op: 139,
+        from: Kind::Float,
+        both: false,
+        to: Kind::Int,
+    })), // 139 f2i
+    Some(Meaning::Basic(Basic::Unmodelled {
+        op: 140,
+        from: Kind::Float,
+        both: false,
+        to: Kind::Long,
+    })), // 140 f2l
+    Some(Meaning::Basic(Basic::Unmodelled {
+        op: 141,
+        from: Kind::Float,
+        both: false,
+        to: Kind::Double,
+    })), // 141 f2d
+    Some(Meaning::Basic(Basic::Unmodelled {
+        op: 142,
+        from: Kind::Double,
+        both: false,
+        to: Kind::Int,
+    })), // 142 d2i
+    Some(Meaning::Basic(Basic::Unmodelled {
+        op: 143,
+        from: Kind::Double,
+        both: false,
+        to: Kind::Long,
+    })), // 143 d2l
+    Some(Meaning::Basic(Basic::Unmodelled {
+        op: 144,
+        from: Kind::Double,
+        both: false,
+        to: Kind::Float,
+    })), // 144 d2f
     Some(Meaning::Basic(Basic::Convert(Conversion::IntToByte))), // 145 i2b
     Some(Meaning::Basic(Basic::Convert(Conversion::IntToChar))), // 146 i2c
     Some(Meaning::Basic(Basic::Convert(Conversion::IntToShort))), // 147 i2s
     Some(Meaning::Basic(Basic::CompareLong)), // 148 lcmp
-    Some(Meaning::Basic(Basic::Unmodelled { op: 149, from: Kind::Float, both: true, to: Kind::Int })), // 149 fcmpl
-    Some(Meaning::Basic(Basic::Unmodelled { op: 150, from: Kind::Float, both: true, to: Kind::Int })), // 150 fcmpg
-    Some(Meaning::Basic(Basic::Unmodelled { op: 151, from: Kind::Double, both: true, to: Kind::Int })), // 151 dcmpl
-    Some(Meaning::Basic(Basic::Unmodelled { op: 152, from: Kind::Double, both: true, to: Kind::Int })), // 152 dcmpg
+    Some(Meaning::Basic(Basic::Unmodelled {
+        op: 149,
+        from: Kind::Float,
+        both: true,
+        to: Kind::Int,
+    })), // 149 fcmpl
+    Some(Meaning::Basic(Basic::Unmodelled {
+        op: 150,
+        from: Kind::Float,
+        both: true,
+        to: Kind::Int,
+    })), // 150 fcmpg
+    Some(Meaning::Basic(Basic::Unmodelled {
+        op: 151,
+        from: Kind::Double,
+        both: true,
+        to: Kind::Int,
+    })), // 151 dcmpl
+    Some(Meaning::Basic(Basic::Unmodelled {
+        op: 152,
+        from: Kind::Double,
+        both: true,
+        to: Kind::Int,
+    })), // 152 dcmpg
     Some(Meaning::Basic(Basic::IfInt(Test::Equal))), // 153 ifeq
     Some(Meaning::Basic(Basic::IfInt(Test::NotEqual))), // 154 ifne
     Some(Meaning::Basic(Basic::IfInt(Test::Less))), // 155 iflt

@@ -1,5 +1,5 @@
 -- Objects, constructors and the selection of methods.
-use Rattle.std.specs.Prelude.{◌≡◌, ℕ, List, [], ◌∷◌, ◌++◌, codes, Some, None, true, pos}
+use Rattle.std.specs.Prelude.{◌≡◌, ℕ, List, [], ◌∷◌, ◌++◌, codes, None, true, pos}
 use Rattle.std.proofs.Common.{refl}
 use Rattle.class_machine.specs.declared.kinds.Kind.{Kind}
 use Rattle.class_machine.specs.declared.kinds.Slots.TheVariants.{Zero, One}
@@ -7,11 +7,11 @@ use Rattle.class_machine.specs.declared.kinds.Mode.{Mode}
 use Rattle.class_machine.specs.declared.kinds.Access.{Access}
 use Rattle.class_machine.specs.declared.meaning.Basic.{Basic}
 use Rattle.class_machine.specs.Events as events
-use Rattle.class_machine.specs.Values.{object_class, class_class}
-use Rattle.class_machine.specs.Operations.{FieldAccess, New, Refer, CheckCast}
+use Rattle.class_machine.specs.Values.{object_class}
+use Rattle.class_machine.specs.Operations.{FieldAccess, New, CheckCast}
 use Rattle.class_machine.specs.Classes.{reference}
-use Rattle.class_machine.specs.Listed.{Listed, ListedMethod, class, class_below, interface, object_field, static_method, object_method, abstract_method}
-use Rattle.class_machine.specs.Examples.{plain, basic, to, int, load, int_return, void_return, null, ends, gives, returns, main_class, main_action, runs, acts, invoke, say, said, action, constructor_below, make}
+use Rattle.class_machine.specs.Listed.{Listed, ListedMethod, class, class_below, interface, object_field, object_method, abstract_method}
+use Rattle.class_machine.specs.Examples.{plain, basic, to, int, int_return, void_return, null, ends, gives, returns, main_class, main_action, runs, acts, invoke, say, said, action, constructor_below, make}
 
 -- a method that says a word
 abbrev pub speaks : List ℕ → ListedMethod

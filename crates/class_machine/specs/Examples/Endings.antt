@@ -1,5 +1,5 @@
 -- Each ending once.
-use Rattle.std.specs.Prelude.{◌≡◌, ℕ, List, [], ◌∷◌, ◌++◌, codes, Some, None, pos, true}
+use Rattle.std.specs.Prelude.{◌≡◌, [], ◌∷◌, ◌++◌, codes, Some, pos, true}
 use Rattle.std.proofs.Common.{refl}
 use Rattle.class_machine.specs.declared.kinds.Kind.{Kind}
 use Rattle.class_machine.specs.declared.kinds.Slots.TheVariants.{Zero, One}
@@ -11,7 +11,7 @@ use Rattle.class_machine.specs.Library.{system_class}
 use Rattle.class_machine.specs.Operations.{New}
 use Rattle.class_machine.specs.Classes.{reference}
 use Rattle.class_machine.specs.Listed.{class, native_method, runs_with, static_method}
-use Rattle.class_machine.specs.Examples.{plain, basic, int, text, add, int_return, void_return, null, ends, returns, main_action, acts, invoke, action, say, said, initialiser}
+use Rattle.class_machine.specs.Examples.{plain, basic, int, text, null, ends, main_action, acts, invoke, action, say, said, initialiser}
 use Rattle.class_machine.specs.Start as arguments
 
 -- the value that the entry returns, a new array of texts: its type and number

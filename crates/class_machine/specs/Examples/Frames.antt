@@ -1,5 +1,5 @@
 -- Operands, locals, jumps, subroutines and exceptions.
-use Rattle.std.specs.Prelude.{◌≡◌, ℕ, List, [], ◌∷◌, ◌++◌, codes, Some, None, pos, negsuc}
+use Rattle.std.specs.Prelude.{◌≡◌, [], ◌∷◌, codes, Some, None, pos, negsuc}
 use Rattle.std.proofs.Common.{refl}
 use Rattle.class_machine.specs.declared.kinds.Kind.{Kind}
 use Rattle.class_machine.specs.declared.kinds.Element.{Element}
@@ -15,7 +15,7 @@ use Rattle.class_machine.specs.Events as events
 use Rattle.class_machine.specs.Operations.{Switch, NewArrays, NewReferenceArray}
 use Rattle.class_machine.specs.Classes.{reference}
 use Rattle.class_machine.specs.Listed.{class, static_method}
-use Rattle.class_machine.specs.Examples.{plain, basic, to, int, long, load, store, add, int_return, null, ends, gives, main_class, runs, invoke}
+use Rattle.class_machine.specs.Examples.{plain, basic, to, int, long, load, store, add, int_return, ends, gives, main_class, runs, invoke}
 
 wraps : runs 4 (main_class (int (pos 2147483647) ∷ int (pos 1) ∷ add ∷ int_return ∷ []) [] ∷ []) ≡ gives (negsuc 2147483647)
 wraps = refl

@@ -1,14 +1,12 @@
 -- Class initialisation.
-use Rattle.std.specs.Prelude.{◌≡◌, ℕ, List, [], ◌∷◌, ◌++◌, codes, Some, None, pos}
+use Rattle.std.specs.Prelude.{◌≡◌, [], ◌∷◌, ◌++◌, codes, Some, None, pos}
 use Rattle.std.proofs.Common.{refl}
 use Rattle.class_machine.specs.declared.kinds.Slots.TheVariants.{One}
-use Rattle.class_machine.specs.declared.kinds.Mode.{Mode}
 use Rattle.class_machine.specs.declared.meaning.Basic.{Basic}
 use Rattle.class_machine.specs.Events as events
-use Rattle.class_machine.specs.Values.{object_class}
 use Rattle.class_machine.specs.Classes.{reference}
 use Rattle.class_machine.specs.Listed.{ListedClass, class, class_below, static_field, static_method}
-use Rattle.class_machine.specs.Examples.{basic, int, add, int_return, void_return, null, ends, gives, returns, main_class, main_action, runs, acts, invoke, get_static, put_static, say, said, initialiser, action}
+use Rattle.class_machine.specs.Examples.{basic, int, add, int_return, void_return, null, ends, main_class, main_action, runs, acts, get_static, put_static, say, said, initialiser}
 
 abbrev pub first_class : ListedClass
 first_class = class (codes "J") [] (initialiser (say (codes "J") ++ void_return ∷ []) ∷ [])

@@ -3,15 +3,13 @@ use Rattle.std.specs.Prelude.{◌≡◌, ℕ, List, [], ◌∷◌, ◌++◌, cod
 use Rattle.std.proofs.Common.{refl}
 use Rattle.class_file.specs.Pool.{Reference}
 use Rattle.class_machine.specs.declared.kinds.Kind.{Kind}
-use Rattle.class_machine.specs.declared.kinds.Slots.TheVariants.{Zero, One}
 use Rattle.class_machine.specs.declared.kinds.Mode.{Mode}
 use Rattle.class_machine.specs.declared.meaning.Basic.{Basic}
 use Rattle.class_machine.specs.Events as events
 use Rattle.class_machine.specs.Values.{object_class, class_class, string_class}
-use Rattle.class_machine.specs.Operations.{New}
 use Rattle.class_machine.specs.Classes.{reference}
 use Rattle.class_machine.specs.Listed.{ListedMethod, ListedClass, class, class_below, object_method}
-use Rattle.class_machine.specs.Examples.{plain, basic, int, long, text, int_return, void_return, null, ends, gives, returns, main_class, main_action, runs, acts, invoke, get_static, output_field, print_line, say, said, constructor_below, initialiser, make, action}
+use Rattle.class_machine.specs.Examples.{basic, int, long, text, int_return, void_return, ends, gives, returns, main_class, main_action, runs, acts, invoke, get_static, output_field, print_line, say, said, constructor_below, initialiser, make}
 
 abbrev pub buffer : List ℕ
 buffer = codes "java/lang/StringBuffer"

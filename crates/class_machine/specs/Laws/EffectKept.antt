@@ -13,7 +13,6 @@ use Rattle.class_machine.specs.declared.kinds.Slots.{Slots}
 use Rattle.class_machine.specs.declared.kinds.Slots.TheVariants.{Zero, One, Two}
 use Rattle.class_machine.specs.declared.meaning.Basic.{Basic}
 use Rattle.class_machine.specs.Values.{Name, Held, Value, Plain, Token, ReturnAddress, Local, Unset, Holds, Second, Content, content, highest, highest_local, fresh, filled_in, filled_local, kind_width, slots_of, is_wide, width, weight, same_kind, is_held, loads, stores}
-use Rattle.class_machine.specs.Values as Held
 use Rattle.class_machine.specs.Numbers.{divide, binary, shift, compare, same_int, low_signed, low_unsigned}
 use Rattle.class_machine.specs.Descriptors.{kind_in, parameters_in}
 use Rattle.class_machine.specs.Classes.{is_constructor}

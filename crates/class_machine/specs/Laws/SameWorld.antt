@@ -1,12 +1,11 @@
 -- Where the classes are the same and so is the world, all that the laws ask is met: an instruction does the same at
 -- another place, whatever it is.
-use Rattle.std.proofs.Common.{◌≡◌, ℕ, ◌+◌, Bool, true, false, List, [], ◌∷◌, ◌++◌, Option, Some, None, refl, subst, append_assoc}
-use Rattle.std.specs.Prelude.{if◌then◌else◌, replicate, is_some}
+use Rattle.std.proofs.Common.{◌≡◌, ℕ, Bool, true, false, List, [], ◌∷◌, ◌++◌, Option, Some, None, refl, subst}
+use Rattle.std.specs.Prelude.{if◌then◌else◌, replicate}
 use Rattle.class_file.specs.Pool.{Reference}
 use Rattle.class_machine.specs.Values.{Name, Held, Unset}
 use Rattle.class_machine.specs.Classes.{Method, Classes, is_among, fault_class}
 use Rattle.class_machine.specs.World.{World, make, enter_monitor}
-use Rattle.class_machine.specs.Operations.{Operation}
 use Rattle.class_machine.specs.Effect.{Effect, On, Jump, Enter, Back, Ask, Announce, CallStatic, CallOn, Build, Leave, Fail, Throw, Unmodelled, Broken}
 use Rattle.class_machine.specs.Answers.{Reply, Gives, Done, Faults, Refuses, answer}
 use Rattle.class_machine.specs.LibraryCalls.{Work, Results, Throws, Calls, Loads, Exits, Misuses}

@@ -6,13 +6,12 @@ use Rattle.std.proofs.lemmas.Bool.Decides.{nat_tests}
 use Rattle.std.proofs.lemmas.List.{map-append}
 use Rattle.class_file.specs.Pool.{Reference}
 use Rattle.class_machine.specs.declared.kinds.Fault.{Fault}
-use Rattle.class_machine.specs.declared.kinds.Kind.{Kind}
-use Rattle.class_machine.specs.Values.{Name, ClassObject, class_of, throwable_class, Held, Reference as Pointer, Value, Plain, ReturnAddress, Local, Unset, Holds, Second, Content, content, pushed_on, has_room, kind_width, weight, is_wide_held, argument_locals, arguments_width}
+use Rattle.class_machine.specs.Values.{Name, ClassObject, class_of, throwable_class, Held, Reference as Pointer, Plain, ReturnAddress, Unset, Holds, Second, Content, pushed_on, is_wide_held, argument_locals, arguments_width}
 use Rattle.class_machine.specs.Descriptors.{kind_in, is_array, result_in}
 use Rattle.class_machine.specs.Events.{Event, Ending, Returned, Uncaught, InitFailed, Exit, Unmodelled, Unresolved, ScriptEnds}
 use Rattle.class_machine.specs.Events as events
-use Rattle.class_machine.specs.Classes.{dotted, member_text, is_constructor, Field, Method, Classes, is_among, fault_class}
-use Rattle.class_machine.specs.World.{World, make, begin, enter_monitor}
+use Rattle.class_machine.specs.Classes.{dotted, member_text, Method, Classes, is_among}
+use Rattle.class_machine.specs.World.{World, make, begin}
 use Rattle.class_machine.specs.Operations.{Operation}
 use Rattle.class_machine.specs.Effect.{Setting, Effect, On, Jump, Enter, Back, Ask, Announce, CallStatic, CallOn, Build, Leave, Fail, Throw, is_broken, effect}
 use Rattle.class_machine.specs.Effect as effects
@@ -24,8 +23,8 @@ use Rattle.class_machine.specs.Natives.{Response, Returns, Lacks, respond, nativ
 use Rattle.class_machine.specs.Natives as native
 use Rattle.class_machine.specs.Turn
 use Rattle.class_machine.specs.Turn.{Entry, Code, Link, Free, Refused, Needs, Purpose, Ordinary, Within, Frame, Turn, Stays, Completes, Enters, Leaves, Begins, Raises, Finishes, stops, is_frameless, lock_of, entering, with_receiver, filled}
-use Rattle.class_machine.specs.Renaming.{renamed, renamed_local, more_locals, grown, grown_effect, Kept, is_bare}
-use Rattle.class_machine.specs.Standing.{Growth, SameResult, Stands, EntryKept, Arrives, ReplyKept, MadeKept, ResponseKept, WorkKept, grown_frame, AllStart, EndKept, TurnKept, Agrees, BeginsAlike, SearchedAlike, BodyAlike, AnsweredAlike, Fair}
+use Rattle.class_machine.specs.Renaming.{renamed_local, more_locals, grown, grown_effect, Kept, is_bare}
+use Rattle.class_machine.specs.Standing.{Growth, SameResult, Stands, EntryKept, Arrives, ReplyKept, ResponseKept, WorkKept, grown_frame, AllStart, EndKept, TurnKept, Agrees, BeginsAlike, SearchedAlike, BodyAlike, AnsweredAlike, Fair}
 use Rattle.class_machine.specs.Laws.EffectKept.{built-grown, effect_kept, weight-rs}
 
 -- ---- locals of a call

@@ -1,10 +1,10 @@
 -- Frames that wait at a call, and those that catch an exception: a result, a text and an exception do the same to a frame
 -- whose instruction stands elsewhere.
-use Rattle.std.proofs.Common.{◌≡◌, ℕ, ◌+◌, Bool, true, false, List, [], ◌∷◌, map, Option, Some, None, refl, ap, arith}
+use Rattle.std.proofs.Common.{◌≡◌, ℕ, ◌+◌, Bool, true, false, List, [], ◌∷◌, map, Option, Some, None, refl, arith}
 use Rattle.std.specs.Prelude.{nat_le, if◌then◌else◌}
 use Rattle.std.specs.Option.{option_map}
 use Rattle.std.proofs.lemmas.Bool.Decides.{nat_tests}
-use Rattle.class_machine.specs.Values.{Name, Held, Reference as Pointer, Value, Plain, Content, content, pushed_on, held_width, has_room}
+use Rattle.class_machine.specs.Values.{Name, Held, Reference as Pointer, Plain, Content, content, pushed_on, held_width, has_room}
 use Rattle.class_machine.specs.Events as events
 use Rattle.class_machine.specs.Classes.{Classes}
 use Rattle.class_machine.specs.World.{World}

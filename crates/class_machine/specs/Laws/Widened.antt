@@ -1,15 +1,14 @@
 -- A test that became the opposite test over a jump goes on where it went, in one step or in two.
-use Rattle.std.proofs.Common.{◌≡◌, ℕ, zero, suc, Bool, true, false, List, [], ◌∷◌, Option, Some, None, inl, inr, refl, sym, ap, ◌∙◌, subst}
+use Rattle.std.proofs.Common.{◌≡◌, zero, suc, Bool, true, false, List, [], ◌∷◌, Option, Some, None, inl, inr, refl, sym, ap, ◌∙◌, subst}
 use Rattle.std.specs.Prelude.{ℤ, pos, not, if◌then◌else◌, is_some, int_lt}
 use Rattle.class_machine.specs.declared.kinds.Test.{Test}
 use Rattle.class_machine.specs.declared.kinds.Test.TheVariants.{Equal, NotEqual, Less, AtLeast, Greater, AtMost}
 use Rattle.class_machine.specs.declared.meaning.Basic.{Basic}
-use Rattle.class_machine.specs.Values.{Name, Int, Null, Reference as Pointer, Value, Plain, Token, ReturnAddress, Local, Content, content}
+use Rattle.class_machine.specs.Values.{Name, Int, Null, Reference as Pointer, Value, Plain, Token, ReturnAddress, Local, Content}
 use Rattle.class_machine.specs.Numbers.{passes, opposite, same_int}
 use Rattle.class_machine.specs.Events as events
 use Rattle.class_machine.specs.Classes.{Classes}
 use Rattle.class_machine.specs.World.{World}
-use Rattle.class_machine.specs.Operations.{Do}
 use Rattle.class_machine.specs.Effect
 use Rattle.class_machine.specs.Effect.{Setting, Effect, On, Jump, Enter, Back, Ask, Announce, CallStatic, CallOn, Build, Leave, Fail, Throw, Unmodelled, Broken, agrees, basic_effect}
 use Rattle.class_machine.specs.Turn
