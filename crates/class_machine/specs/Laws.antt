@@ -5,3 +5,4 @@ pub mod TurnKept
 pub mod WaitingKept
 pub mod Widened
 pub mod SameWorld
+pub mod Moved

@@ -25,3 +25,4 @@ pub mod Renaming
 pub mod Laws
 pub mod Standing
 pub mod Widening
+pub mod Moving

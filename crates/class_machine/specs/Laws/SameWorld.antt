@@ -31,7 +31,7 @@ response_same (Returns v w) = (w, refl, refl)
 response_same (native.Throws x w) = (w, refl, refl)
 response_same Lacks = refl
 
-work_same : (r : Work) → WorkKept Same r r
+pub work_same : (r : Work) → WorkKept Same r r
 work_same (Results said v w) = (w, refl, refl)
 work_same (Throws x w) = (w, refl, refl)
 work_same (work.Faults fault) = refl
@@ -47,7 +47,7 @@ module _ {P Q : Type 0} (f at : P → Q) (code : Code P) (code' : Code Q) (cs : 
     locked = λ w w' a x. subst (λ v. enter_monitor w x ≡ enter_monitor v x) a refl;
   }
 
-  start_append : (xs us : List (Frame P)) (ys vs : List (Frame Q)) → AllStart f xs ys → AllStart f us vs → AllStart f (xs ++ us) (ys ++ vs)
+  pub start_append : (xs us : List (Frame P)) (ys vs : List (Frame Q)) → AllStart f xs ys → AllStart f us vs → AllStart f (xs ++ us) (ys ++ vs)
   start_append [] us ys vs k l = rw k l
   start_append (x ∷ xs) us ys vs k l = rw k.3 (k.0, k.1 ++ vs, k.2, refl, start_append xs us k.1 vs k.4 l)
 
