@@ -5,6 +5,7 @@ pub mod Natives
 pub mod LibraryRuns
 pub mod Endings
 pub mod Files
+pub mod Bank
 -- Worked examples: small programs, whose runs the definition computes. Here is their notation.
 use Rattle.std.specs.Prelude.{ℕ, List, [], ◌∷◌, ◌++◌, codes, Some, None, ℤ, pos}
 use Rattle.event_machine.specs.Observation.{Observation}

@@ -26,3 +26,4 @@ pub mod Laws
 pub mod Standing
 pub mod Widening
 pub mod Moving
+pub mod Lines

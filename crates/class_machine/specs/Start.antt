@@ -1,9 +1,12 @@
 -- How a run starts at an entry method (JVMS 2.17.1): as an invokestatic of it does, but without a step. The first state has
 -- the entry's frame and above it those of the initialisers that are pending.
-use Rattle.std.specs.Prelude.{ℕ, if◌then◌else◌, nat_le, List, [], ◌∷◌, ◌++◌, Option, Some, None, ℤ}
-use Rattle.class_machine.specs.Values.{Name, Made, print_stream_class, string_class, Held, Reference as Pointer, arguments_width}
+use Rattle.std.specs.Prelude.{◌&&◌, ◌||◌, Bool, true, false, ℕ, if◌then◌else◌, nat_le, List, [], ◌∷◌, ◌++◌, Option, Some, None, ℤ}
+use Rattle.std.specs.List.{find}
+use Rattle.std.specs.Str.{bytes_eq}
+use Rattle.class_machine.specs.Values.{Name, Made, print_stream_class, string_class, object_class, Held, Reference as Pointer, arguments_width}
 use Rattle.class_machine.specs.Values as values
-use Rattle.class_machine.specs.Descriptors.{array_of}
+use Rattle.class_machine.specs.Descriptors.{array_of, descriptor_of, element_of, class_in, parameters_in}
+use Rattle.class_machine.specs.Natives.{is_int_of, is_long, is_reference, takes_text}
 use Rattle.class_machine.specs.Events.{Answer, Ending, Unresolved, Broken}
 use Rattle.class_machine.specs.Classes.{member_text, Method, Classes}
 use Rattle.class_machine.specs.World.{Instance, Array, World, next_name, with_object, set_object, add_text, begin}
@@ -52,6 +55,29 @@ argument (Texts texts) w = texts_array texts w (next_name w (array_of string_cla
 abbrev pub arguments : List EntryArgument → World → List Held × World
 arguments [] w = ([], w)
 arguments (x ∷ xs) w = let first = argument x w in let others = arguments xs first.1 in (first.0 ∷ others.0, others.1)
+
+-- ---- which method is the entry
+
+-- a value for a parameter of the type
+abbrev pub takes : Classes → List ℕ → EntryArgument → Bool
+takes cs type (Int n) = is_int_of (element_of type) n
+takes cs type (Long n) = is_long (element_of type)
+takes cs type Null = is_reference (element_of type)
+takes cs type (Text units) = takes_text cs (class_in type)
+takes cs type (Texts texts) = bytes_eq type (array_of string_class) || (bytes_eq type (array_of object_class) || bytes_eq type (descriptor_of object_class))
+
+abbrev pub takes_all : Classes → List (List ℕ) → List EntryArgument → Bool
+takes_all cs [] [] = true
+takes_all cs (type ∷ types) (x ∷ xs) = takes cs type x && takes_all cs types xs
+takes_all cs _ _ = false
+
+-- the static method, of that name, takes the arguments
+abbrev pub is_entry : Classes → List ℕ → List EntryArgument → Method → Bool
+is_entry cs name words m = m.is_static && (bytes_eq m.name.member.name name && takes_all cs (parameters_in m.name.member.descriptor) words)
+
+-- of the methods of a class in their order, the first one that takes the arguments
+abbrev pub entry_among : Classes → List ℕ → List EntryArgument → List Method → Option Method
+entry_among cs name words methods = find (is_entry cs name words) methods
 
 -- ---- the first state
 
