@@ -123,7 +123,7 @@ module _ {P : Type 0} (code : Code P) (cs : Classes) (due : Due) where
   moved (Enters callee c w') w f below = went w' (callee ∷ frame_at f f.place c ∷ below)
   moved (Leaves v w') w f below = returned f.purpose v (leaving f.monitor w') below
   moved (Begins frames w') w f below = went w' (frames ++ (f ∷ below))
-  moved (Raises said x w') w f below = telling said w' (unwound x w' (f ∷ below))
+  moved (Raises said x c w') w f below = telling said w' (unwound x w' (frame_at f f.place c ∷ below))
   moved (Finishes said ending) w f below = finished said w ending
 
 -- ---- when no frame is left

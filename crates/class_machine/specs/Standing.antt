@@ -98,7 +98,7 @@ module _ {P Q : Type 0} (f : P → Q) where
         (w' : World) × Alike w w' × (h : Growth Q) × (h.method ≡ callee.method) × (t ≡ Enters (grown_frame f h callee) (grown f g.locals c) w')
     TurnKept g (Leaves v w) t = (w' : World) × Alike w w' × (t ≡ Leaves v w')
     TurnKept g (Begins xs w) t = (w' : World) × Alike w w' × (ys : List (Frame Q)) × AllStart xs ys × (t ≡ Begins ys w')
-    TurnKept g (Raises said x w) t = (w' : World) × Alike w w' × (t ≡ Raises said x w')
+    TurnKept g (Raises said x c w) t = (w' : World) × Alike w w' × (t ≡ Raises said x (grown f g.locals c) w')
     TurnKept g (Finishes said ending) t = EndKept said ending t
 
 -- ---- what one effect asks of the classes and the world

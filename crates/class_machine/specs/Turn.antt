@@ -86,8 +86,8 @@ pub data Turn (P : Type 0) : Type 0 where
   Leaves : (result : Option Held) (w : World) → Turn P
   -- initialisers come first, and the instruction is executed again
   Begins : (initialisers : List (Frame P)) (w : World) → Turn P
-  -- an exception, after the event of the native call that throws it
-  Raises : (said : Option Event) (x : Name) (w : World) → Turn P
+  -- an exception, after the event of the native call that throws it; what the frame holds then
+  Raises : (said : Option Event) (x : Name) (c : Content P) (w : World) → Turn P
   -- the run is over, one step after the event if there is one
   Finishes : (said : Option Event) (ending : Ending) → Turn P
 
@@ -213,15 +213,15 @@ module _ {P : Type 0} (code : Code P) (cs : Classes) where
   completes said super place c w = if is_some (code.line place) then Completes said super place c w else stops events.Broken
 
   -- an exception that the machine makes is a new object
-  abbrev pub fails : Fault → World → Turn P
-  fails fault w = given (make cs w (fault_class fault)) where
+  abbrev pub fails : Fault → Content P → World → Turn P
+  fails fault c w = given (make cs w (fault_class fault)) where
     given : Name × World → Turn P
-    given made = Raises None made.0 made.1
+    given made = Raises None made.0 c made.1
 
   abbrev pub replied : Frame P → Content P → World → Reply → Turn P
   replied f c w (Gives v w') = stays (code.next f.place) (pushed_on (Plain v) c) w'
   replied f c w (Done w') = stays (code.next f.place) c w'
-  replied f c w (Faults fault) = fails fault w
+  replied f c w (Faults fault) = fails fault c w
   replied f c w Refuses = stops events.Broken
 
   -- ---- initialisation (JVMS 2.17.4, 5.5)
@@ -268,7 +268,7 @@ module _ {P : Type 0} (code : Code P) (cs : Classes) where
   -- a native call: its event, and what the script answers
   abbrev pub responded : Frame P → Content P → Bool → Event → Response → Turn P
   responded f c super event (Returns v w) = completes (Some event) super (code.next f.place) (with_result v c) w
-  responded f c super event (native.Throws x w) = Raises (Some event) x w
+  responded f c super event (native.Throws x w) = Raises (Some event) x c w
   responded f c super event Lacks = Finishes (Some event) ScriptEnds
 
   -- toString or getMessage of a class outside the library, within a library call
@@ -284,8 +284,8 @@ module _ {P : Type 0} (code : Code P) (cs : Classes) where
   -- what a library call makes of its frame
   abbrev pub worked : Frame P → Content P → World → Bool → Work → Turn P
   worked f c w super (Results said v w') = completes said super (code.next f.place) (with_result v c) w'
-  worked f c w super (Throws x w') = Raises None x w'
-  worked f c w super (work.Faults fault) = fails fault w
+  worked f c w super (Throws x w') = Raises None x c w'
+  worked f c w super (work.Faults fault) = fails fault c w
   worked f c w super (Calls m a wait w') = enter_within c w' m a wait
   worked f c w super (Loads class) = if is_array class then loads f c w class [] else loads f c w class (pending w class)
   worked f c w super (Exits status) = stops (Exit status)
@@ -327,7 +327,7 @@ module _ {P : Type 0} (code : Code P) (cs : Classes) where
   serves_as a m = cs.is_interface m.name.class || cs.is_subtype (class_of a) m.name.class
 
   abbrev pub call_on : Frame P → Content P → World → Bool → Reference → Method → List Held → Option Name → Turn P
-  call_on f c w special r m given None = if is_frameless m && not (has_result_room f c m) then stops events.Broken else fails Fault.NullPointer w
+  call_on f c w special r m given None = if is_frameless m && not (has_result_room f c m) then stops events.Broken else fails Fault.NullPointer c w
   call_on f c w special r m given (Some a) =
       if serves_as a m then runs_selected (purpose_of special r) f c w r a given (selection f special a m) else stops events.Broken
 
@@ -361,8 +361,8 @@ module _ {P : Type 0} (code : Code P) (cs : Classes) where
   taken f w (CallOn special r a given c) = with_method (cs.method r) (λ m. call_on f c w special r m given a)
   taken f w (Build r class number given c) = with_method (cs.method r) (λ m. build f c w r class number m given)
   taken f w (Leave result) = Leaves result w
-  taken f w (Fail fault) = fails fault w
-  taken f w (Throw a) = if cs.is_subtype (class_of a) throwable_class then Raises None a w else stops events.Broken
+  taken f w (Fail fault) = fails fault f.content w
+  taken f w (Throw a) = if cs.is_subtype (class_of a) throwable_class then Raises None a f.content w else stops events.Broken
   taken f w (effects.Unmodelled op) = stops (Unmodelled op)
   taken f w effects.Broken = stops events.Broken
 

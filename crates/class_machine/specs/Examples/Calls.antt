@@ -1,5 +1,5 @@
 -- Objects, constructors and the selection of methods.
-use Rattle.std.specs.Prelude.{◌≡◌, ℕ, List, [], ◌∷◌, ◌++◌, codes, None, true, pos}
+use Rattle.std.specs.Prelude.{◌≡◌, ℕ, List, [], ◌∷◌, ◌++◌, codes, Some, None, true, pos}
 use Rattle.std.proofs.Common.{refl}
 use Rattle.class_machine.specs.declared.kinds.Kind.{Kind}
 use Rattle.class_machine.specs.declared.kinds.Slots.TheVariants.{Zero, One}
@@ -11,11 +11,15 @@ use Rattle.class_machine.specs.Values.{object_class}
 use Rattle.class_machine.specs.Operations.{FieldAccess, New, CheckCast}
 use Rattle.class_machine.specs.Classes.{reference}
 use Rattle.class_machine.specs.Listed.{Listed, ListedMethod, class, class_below, interface, object_field, object_method, abstract_method}
-use Rattle.class_machine.specs.Examples.{plain, basic, to, int, int_return, void_return, null, ends, gives, returns, main_class, main_action, runs, acts, invoke, say, said, action, constructor_below, make}
+use Rattle.class_machine.specs.Examples.{plain, basic, to, int, int_return, void_return, null, ends, gives, returns, main_class, main_action, runs, acts, invoke, say, said, action, constructor_below, make, get_static, output_field, print_line}
 
 -- a method that says a word
 abbrev pub speaks : List ℕ → ListedMethod
 speaks word = object_method (codes "speak") (codes "()V") (say word ++ void_return ∷ []) []
+
+-- the same method, synchronized
+abbrev pub locked : ListedMethod → ListedMethod
+locked m = record m { declared = record (m.declared) { is_synchronized = true } }
 
 -- the interface's method is selected from the class of the object upward: B's own, and A's for A
 selects : acts 40 (
@@ -71,3 +75,41 @@ null_receiver = refl
 -- null passes a cast to a class that isn't there
 null_cast : runs 4 (main_class (null ∷ plain (CheckCast (codes "Gone")) ∷ to (Basic.IfNull true) 3 ∷ int (pos 1) ∷ int_return ∷ []) [] ∷ []) ≡ record { events = []; ending = None }
 null_cast = refl
+
+-- A constructor that throws has its object all the same: the copy of the token in local 0 is the buffer that `append` then
+-- fills.
+copies_filled :
+    acts 40 (
+    main_action (plain (New (codes "java/lang/StringBuffer")) ∷ basic (Basic.Duplicate One Zero) ∷ basic (Basic.Store Kind.Reference 0) ∷ null ∷ invoke Mode.Special (reference (codes "java/lang/StringBuffer") (codes "<init>") (codes "(Ljava/lang/String;)V")) ∷ void_return ∷ basic (Basic.Pop One) ∷ basic (Basic.Load Kind.Reference 0) ∷ basic (Basic.Duplicate One Zero) ∷ int (pos 7) ∷ invoke Mode.Virtual (reference (codes "java/lang/StringBuffer") (codes "append") (codes "(I)Ljava/lang/StringBuffer;")) ∷ basic (Basic.Pop One) ∷ basic (Basic.Store Kind.Reference 1) ∷ get_static output_field ∷ basic (Basic.Load Kind.Reference 1) ∷ print_line (codes "(Ljava/lang/Object;)V") ∷ void_return ∷ []) (record { start = 4; end = 5; handler = 6; catch = None } ∷ []) ∷
+    []
+    ) ≡ returns (said (codes "7") ∷ [])
+copies_filled = refl
+
+-- a synchronized method that is left by an exception leaves its monitor: the count is 0 again
+leaves_monitor :
+    acts 40 (
+    class_below (codes "A") object_class [] [] (constructor_below object_class ∷ locked (object_method (codes "fail") (codes "()V") (null ∷ basic Basic.Throw ∷ []) []) ∷ []) ∷
+    main_action (make (codes "A") ++ basic (Basic.Store Kind.Reference 0) ∷ basic (Basic.Load Kind.Reference 0) ∷ invoke Mode.Virtual (action (codes "A") (codes "fail")) ∷ void_return ∷ basic (Basic.Pop One) ∷ basic (Basic.Load Kind.Reference 0) ∷ basic Basic.LeaveMonitor ∷ void_return ∷ []) (record { start = 5; end = 6; handler = 7; catch = None } ∷ []) ∷
+    []
+    ) ≡ ends [] (events.Uncaught (codes "java/lang/IllegalMonitorStateException") None)
+leaves_monitor = refl
+
+-- an interface catches nothing, though the exception's class implements it
+interface_catches_nothing :
+    acts 20 (
+    interface (codes "S") [] ∷
+    class_below (codes "X") (codes "java/lang/RuntimeException") (codes "S" ∷ []) [] (constructor_below (codes "java/lang/RuntimeException") ∷ []) ∷
+    main_action (make (codes "X") ++ basic Basic.Throw ∷ void_return ∷ []) (record { start = 0; end = 4; handler = 4; catch = Some (codes "S") } ∷ []) ∷
+    []
+    ) ≡ ends [] (events.Uncaught (codes "X") None)
+interface_catches_nothing = refl
+
+-- an object of another class than the one that declares the method: Broken, after null and before selection
+wrong_receiver :
+    acts 20 (
+    class (codes "A") [] (constructor_below object_class ∷ speaks (codes "a") ∷ []) ∷
+    class (codes "B") [] (constructor_below object_class ∷ []) ∷
+    main_action (make (codes "B") ++ invoke Mode.Virtual (action (codes "A") (codes "speak")) ∷ void_return ∷ []) [] ∷
+    []
+    ) ≡ ends [] events.Broken
+wrong_receiver = refl

@@ -93,7 +93,7 @@ module _ {P Q : Type 0} (at : P → Q) (code : Code P) (code' : Code Q) (cs : Cl
     back_kept g x m (Enters callee c w) t' xs ys k l = inl refl
     back_kept g x m (Leaves v w) t' xs ys k l = inl refl
     back_kept g x m (Begins fs w) t' xs ys k l = inl refl
-    back_kept g x m (Raises said n w) t' xs ys k l = inl refl
+    back_kept g x m (Raises said n c w) t' xs ys k l = inl refl
 
     same_result : (g : Growth Q) (x : Frame P) → g.method ≡ x.method → SameResult x.method g.method
     same_result g x m = record { result = ap (λ r. result_in r.member.descriptor) m }
@@ -158,7 +158,7 @@ module _ {P Q : Type 0} (at : P → Q) (code : Code P) (code' : Code Q) (cs : Cl
     moved_kept g x m (Leaves v u) t' w xs ys k l = rw (k.2, sym k.1) (returned_kept x.purpose v (leaving x.monitor u) xs ys l)
     moved_kept g x m (Begins fs u) t' w xs ys k l =
         rw (k.4, sym k.1) (went_kept u _ _ (start_append at at code code' cs moved.arrives fs (x ∷ xs) k.2 (grown_frame at at g x ∷ ys) k.3 (g, ys, m, refl, l)))
-    moved_kept g x m (Raises said n u) t' w xs ys k l = rw (k.2, sym k.1) (telling_kept said u _ _ (unwound_kept n u (x ∷ xs) (grown_frame at at g x ∷ ys) (g, ys, m, refl, l)))
+    moved_kept g x m (Raises said n c u) t' w xs ys k l = rw (k.2, sym k.1) (telling_kept said u _ _ (unwound_kept n u (frame_at x x.place c ∷ xs) (frame_at (grown_frame at at g x) (at x.place) (grown at g.locals c) ∷ ys) (on_top g x m x.place c xs ys l)))
     moved_kept g x m (Finishes said ending) t' w xs ys k l = finished_kept said ending w (grown_frame at at g x) t' ys k
 
   -- ---- one step, and the run

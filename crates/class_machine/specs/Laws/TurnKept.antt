@@ -77,8 +77,8 @@ module _ {P Q : Type 0} (f at : P → Q) (code : Code P) (code' : Code Q) (cs cs
       TK g (Turn.completes code cs said super p c w) (Turn.completes code' cs' said super (f p) (grown f g.locals c) w')
   completes_kept g said super p c w w' a = completes_at g said super p c w w' a (is_some (code.line p)) refl
 
-  pub fails_kept : (g : Growth Q) (fault : Fault) (w w' : World) → Alike w w' → TK g (Turn.fails code cs fault w) (Turn.fails code' cs' fault w')
-  fails_kept g fault w w' a = let k = agrees.made w w' a fault in (k.0, k.1, ap (λ made. Raises None made.0 made.1) k.2)
+  pub fails_kept : (g : Growth Q) (fault : Fault) (c : Content P) (w w' : World) → Alike w w' → TK g (Turn.fails code cs fault c w) (Turn.fails code' cs' fault (grown f g.locals c) w')
+  fails_kept g fault c w w' a = let k = agrees.made w w' a fault in (k.0, k.1, ap (λ made. Raises None made.0 (grown f g.locals c) made.1) k.2)
 
   entering_alike : (w w' : World) → Alike w w' → (o : Option Name) → Alike (entering o w) (entering o w')
   entering_alike w w' a None = a
@@ -111,7 +111,7 @@ module _ {P Q : Type 0} (f at : P → Q) (code : Code P) (code' : Code Q) (cs cs
     replied_kept : (c : Content P) (w w' : World) → Alike w w' → (r r' : Reply) → ReplyKept Alike r r' → TK g (Turn.replied code cs x c w r) (Turn.replied code' cs' y (gc c) w' r')
     replied_kept c w w' a (Gives v u) r' k = rw k.2 (next_kept (pushed_on (Plain v) c) u k.0 k.1)
     replied_kept c w w' a (Done u) r' k = rw k.2 (next_kept c u k.0 k.1)
-    replied_kept c w w' a (Faults fault) r' k = rw k (fails_kept g fault w w' a)
+    replied_kept c w w' a (Faults fault) r' k = rw k (fails_kept g fault c w w' a)
     replied_kept c w w' a Refuses r' k = tt
 
     room_kept : (c : Content P) (o : Option (List ℕ)) → Turn.room_for_result code cs x c o ≡ true → Turn.room_for_result code' cs' y (gc c) o ≡ true
@@ -158,7 +158,7 @@ module _ {P Q : Type 0} (f at : P → Q) (code : Code P) (code' : Code Q) (cs cs
         TK g (Turn.worked code cs x c w super r) (Turn.worked code' cs' y (gc c) w' super r')
     worked_kept c w w' a super (Results said v u) r' k h = rw k.2 (with_result_kept said super v c u k.0 k.1)
     worked_kept c w w' a super (Throws z u) r' k h = rw k.2 (k.0, k.1, refl)
-    worked_kept c w w' a super (work.Faults fault) r' k h = rw k (fails_kept g fault w w' a)
+    worked_kept c w w' a super (work.Faults fault) r' k h = rw k (fails_kept g fault c w w' a)
     worked_kept c w w' a super (Calls m z wait u) r' k h = rw k.2 (within_kept c u k.0 k.1 m z wait m.is_native)
     worked_kept c w w' a super (Loads class) r' k h = rw k (loads_either c w w' class (h class refl) (is_array class))
     worked_kept c w w' a super (Exits status) r' k h = rw k refl
@@ -213,7 +213,7 @@ module _ {P Q : Type 0} (f at : P → Q) (code : Code P) (code' : Code Q) (cs cs
     null_kept : (c : Content P) (w w' : World) → Alike w w' → (special : Bool) (r : Reference) (given : List Held) (m : Method) →
         TK g (Turn.call_on code cs x c w special r m given None) (Turn.call_on code' cs' y (gc c) w' special r m given None)
     null_kept c w w' a special r given m =
-        unless_full (is_frameless m) (Turn.has_result_room code cs x c m) (Turn.has_result_room code' cs' y (gc c) m) (room_kept c (result_in m.name.member.descriptor)) _ _ (fails_kept g Fault.NullPointer w w' a)
+        unless_full (is_frameless m) (Turn.has_result_room code cs x c m) (Turn.has_result_room code' cs' y (gc c) m) (room_kept c (result_in m.name.member.descriptor)) _ _ (fails_kept g Fault.NullPointer c w w' a)
 
     called_on_kept : (c : Content P) (w w' : World) → Alike w w' → (special : Bool) (r : Reference) (z : Option Name) (given : List Held) (o : Option Method) → cs.method r ≡ o → AnsweredAlike f code code' cs cs' Alike x y w w' (CallOn special r z given c) →
         TK g (Turn.with_method code cs o (λ m. Turn.call_on code cs x c w special r m given z)) (Turn.with_method code' cs' o (λ m. Turn.call_on code' cs' y (gc c) w' special r m given z))
@@ -251,10 +251,10 @@ module _ {P Q : Type 0} (f at : P → Q) (code : Code P) (code' : Code Q) (cs cs
     taken_kept w w' a (CallOn special r z given c) s k = rw s (called_on_kept c w w' a special r z given (cs.method r) refl k)
     taken_kept w w' a (Build r class number given c) s k = rw s (built_kept c w w' a r class number given (cs.method r) refl k)
     taken_kept w w' a (Leave v) s k = (w', a, refl)
-    taken_kept w w' a (Fail fault) s k = fails_kept g fault w w' a
+    taken_kept w w' a (Fail fault) s k = fails_kept g fault x.content w w' a
     taken_kept w w' a (Throw z) s k = rw k (thrown_kept (cs.is_subtype (class_of z) throwable_class) z w w' a)
       where
-        thrown_kept : (b : Bool) (z : Name) (w w' : World) → Alike w w' → TK g (if b then Raises None z w else stops events.Broken) (if b then Raises None z w' else stops events.Broken)
+        thrown_kept : (b : Bool) (z : Name) (w w' : World) → Alike w w' → TK g (if b then Raises None z x.content w else stops events.Broken) (if b then Raises None z y.content w' else stops events.Broken)
         thrown_kept true z w w' a = (w', a, refl)
         thrown_kept false z w w' a = tt
     taken_kept w w' a (effects.Unmodelled op) s k = refl
