@@ -90,6 +90,7 @@ main = static_method (codes "main") (codes "([Ljava/lang/String;)V") lines rows 
       ∷ keep 3 ∷ to Basic.Jsr 23 ∷ to Basic.Goto 37
       ∷ keep 4 ∷ get_static output_field ∷ put_together (codes "balance ") (local 1 ∷ invoke Mode.Virtual (reference account (codes "balance") (codes "()I")) ∷ []) ++ print_line takes_string ∷ basic (Basic.Ret 4)
       ∷ basic Basic.Nothing ∷ local 3 ∷ basic Basic.Throw ∷ []
+
   rows : List Row
   rows = record { start = 5; end = 11; handler = 13; catch = Some refused } ∷ record { start = 5; end = 20; handler = 20; catch = None } ∷ []
 
