@@ -60,12 +60,15 @@ refused_at files i file (plan_fault.Class at fault) lt e none h =
     let long : length (files_of (take i files)) ≡ at = (let l : length (files_of (take i files)) ≡ length (take i files) = length-map (take i files) record_of in omega (arith, l, length-take i files, h.0)) in
     let stands : slice_get (files_of files) at ≡ Some (record_of file) =
     ap (λ (x : Files). slice_get x at) whole ∙ ap (slice_get (files_of (take i files) ++ record_of file ∷ files_of (drop (i + 1) files))) (sym long) ∙ slice_get_behind (files_of (take i files)) (files_of (drop (i + 1) files)) (record_of file) in
-    let faulty : is_faulty (record_of file) ≡ true = ap (λ (b : Bool). b && is_err (reading file.bytes.items)) h.1 ∙ ap is_err h.2 in
-    (record_of file, stands, record {
-      bytes = file.bytes.items;
-      first = ap (find is_faulty) whole ∙ find_behind is_faulty (files_of (take i files)) (files_of (drop (i + 1) files)) (record_of file) none faulty;
-      read = h.2;
-    })
+    let faulty : is_faulty (record_of file) ≡ true = ap (λ (b : Bool). b && is_err (reading file.bytes.items)) h.1 ∙ ap is_err h.2 in (
+      record_of file,
+      stands,
+      record {
+        bytes = file.bytes.items;
+        first = ap (find is_faulty) whole ∙ find_behind is_faulty (files_of (take i files)) (files_of (drop (i + 1) files)) (record_of file) none faulty;
+        read = h.2;
+      },
+    )
 refused_at files i file (plan_fault.NotBuilt at) lt e none h = absurd h
 refused_at files i file plan_fault.Memory lt e none h = tt
 

@@ -424,10 +424,9 @@ module _ (all : List Parsed) where
   apart before place [] f e = tt
   apart before place (Class c n ∷ ps) f e =
       let p = passes_on before place (Class c n) ps e in
-      let own = some_of is_class_name (this_name c) (is_named_of c f.0) in
-      (
+      let own = some_of is_class_name (this_name c) (is_named_of c f.0) in (
         subst (λ (o : Option (List ℕ)). AllByRecursion (λ y. o ≢ y) (map this_name (classes_in ps))) (sym own.1)
-        (apart_from (before ++ Class c n ∷ []) (place + 1) ps own.0 (named_here before c n own.0 own.1) p.1),
+            (apart_from (before ++ Class c n ∷ []) (place + 1) ps own.0 (named_here before c n own.0 own.1) p.1),
         apart (before ++ Class c n ∷ []) (place + 1) ps f.1 p.1,
       )
   apart before place (Aspect a ∷ ps) f e = apart (before ++ Aspect a ∷ []) (place + 1) ps f.1 (passes_on before place (Aspect a) ps e).1

@@ -78,8 +78,8 @@ class_names all i p c n old new name lt e is h put =
     let before = has_class_named (take i all) name in
     put ∙ ap (λ (x : Bool). own || x) h ∙ or_swapped own before
     ∙ sym (
-      ap (λ (ps : List Parsed). has_class_named ps name) (taken all i p lt e) ∙ ap (λ (x : Parsed). has_class_named (take i all ++ x ∷ []) name) is
-      ∙ list_any-append (is_class_named name) (take i all) (Class c n ∷ []) ∙ ap (λ (x : Bool). before || x) (or_false own)
+    ap (λ (ps : List Parsed). has_class_named ps name) (taken all i p lt e) ∙ ap (λ (x : Parsed). has_class_named (take i all ++ x ∷ []) name) is
+    ∙ list_any-append (is_class_named name) (take i all) (Class c n ∷ []) ∙ ap (λ (x : Bool). before || x) (or_false own)
     )
 
 -- whether there is an aspect among the files with this one
@@ -100,8 +100,8 @@ aspect_built all before p a behind hidden is b e h f =
 pub aspect_names : (all : List Parsed) (i : ℕ) (p : Parsed) (a : FirstAspect) (name : List ℕ) → i < length all → p ≡ get_or all i p → p ≡ Aspect a → has_class_named (take i all) name ≡ has_class_named (take (i + 1) all) name
 aspect_names all i p a name lt e is =
     sym (
-      ap (λ (ps : List Parsed). has_class_named ps name) (taken all i p lt e) ∙ ap (λ (x : Parsed). has_class_named (take i all ++ x ∷ []) name) is
-      ∙ list_any-append (is_class_named name) (take i all) (Aspect a ∷ []) ∙ or_false (has_class_named (take i all) name)
+    ap (λ (ps : List Parsed). has_class_named ps name) (taken all i p lt e) ∙ ap (λ (x : Parsed). has_class_named (take i all ++ x ∷ []) name) is
+    ∙ list_any-append (is_class_named name) (take i all) (Aspect a ∷ []) ∙ or_false (has_class_named (take i all) name)
     )
 
 pub aspect_aspects : (all : List Parsed) (i : ℕ) (p : Parsed) (a : FirstAspect) → i < length all → p ≡ get_or all i p → p ≡ Aspect a → true ≡ has_aspect (take (i + 1) all)

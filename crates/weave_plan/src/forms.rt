@@ -79,9 +79,7 @@ fn entry_is_free(pool: &[PoolEntry], entry: &PoolEntry) -> bool
 fn members_are_free(pool: &[PoolEntry], members: &[Member]) -> bool
     ensures { result ≡ list_all (input.member_is_free pool.now) members.now }
 {
-    members
-        .iter()
-        .all(|member| is_free(pool, member.name) && is_free(pool, member.descriptor))
+    members.iter().all(|member| is_free(pool, member.name) && is_free(pool, member.descriptor))
 }
 
 /// Whether the text of the index is no generated name.
