@@ -96,7 +96,8 @@ fn each_cut_and_a_byte_more(rt: HostRuntime) -> Result<(), Fail> {
 fn is_answered(alloc: Global, place: usize, byte: u8) -> Result<bool, AllocError> {
     let left = weave_changed(alloc, &[(place, byte)])?;
     let printed = left.printed.bytes();
-    Ok(match left.status {
+    let status = left.status;
+    Ok(match status {
         0 => left.shelf.len() == 2 && printed.is_empty(),
         1 => left.shelf.len() == 1 && printed.starts_with(b"refused: a/C.class "),
         _ => false,
@@ -171,57 +172,48 @@ fn weave_long(alloc: Global, length: usize) -> Result<Outcome, AllocError> {
     )
 }
 
+/// Whether these files are refused with this line, and stay as they are.
+fn names(alloc: Global, named: &[(&str, &[u8])], line: &str) -> Result<bool, AllocError> {
+    let left = weave(alloc, named)?;
+    Ok(is_refused(&left, line, named.len()))
+}
+
 #[test]
-fn the_first_file_is_named(rt: HostRuntime) -> Result<(), Fail> {
-    let bad = changed(rt.alloc(), &C, &[(0, 0)])?;
-    let own = changed(rt.alloc(), &C, &[(212, 2)])?;
-    let cases: [(&[(&str, &[u8])], &str); 7] = [
-        // Two classes of one name, two aspects, and an aspect with the name of a class.
+fn the_first_file_that_is_not_built(rt: HostRuntime) -> Result<(), Fail> {
+    let alloc = rt.alloc();
+    // Two classes of one name, two aspects, and an aspect with the name of a class.
+    let named: [(&str, &[u8]); 3] = [("in/A.class", &C), ("in/B.class", &C), ("in/C.class", &D)];
+    assert!(rt; names(alloc, &named, "refused: B.class not-built\n")?);
+    let named: [(&str, &[u8]); 2] = [("in/C.aj", ASPECT), ("in/D.aj", ASPECT)];
+    assert!(rt; names(alloc, &named, "refused: D.aj not-built\n")?);
+    let named: [(&str, &[u8]); 2] = [
         (
-            &[("in/A.class", &C), ("in/B.class", &C), ("in/C.class", &D)],
-            "refused: B.class not-built\n",
+            "in/a.aj",
+            b"aspect D { before(): call(void C.m()) { System.out.println(\"a\"); } }",
         ),
-        (
-            &[("in/C.aj", ASPECT), ("in/D.aj", ASPECT)],
-            "refused: D.aj not-built\n",
-        ),
-        (
-            &[
-                (
-                    "in/a.aj",
-                    b"aspect D { before(): call(void C.m()) { System.out.println(\"a\"); } }",
-                ),
-                ("in/b.class", &D),
-            ],
-            "refused: a.aj not-built\n",
-        ),
-        (
-            &[("in/a/b.aj", b"aspect T { before() call(void C.m()) { } }")],
-            "refused: a/b.aj not-built\n",
-        ),
-        // A class file that is none comes before files that aren't built.
-        (
-            &[
-                ("in/A.class", own.as_slice()),
-                ("in/B.aj", b""),
-                ("in/C.class", bad.as_slice()),
-            ],
-            "refused: C.class magic\n",
-        ),
-        // Of two of them the first is named.
-        (
-            &[("in/A.class", &C[..9]), ("in/B.class", bad.as_slice())],
-            "refused: A.class truncated 9\n",
-        ),
-        (
-            &[("in/A.class", own.as_slice()), ("in/B.aj", b"")],
-            "refused: A.class not-built\n",
-        ),
+        ("in/b.class", &D),
     ];
-    for case in cases {
-        let left = weave(rt.alloc(), case.0)?;
-        assert!(rt; is_refused(&left, case.1, case.0.len()), "{}", case.1);
-    }
+    assert!(rt; names(alloc, &named, "refused: a.aj not-built\n")?);
+    let named: [(&str, &[u8]); 1] = [("in/a/b.aj", b"aspect T { before() call(void C.m()) { } }")];
+    assert!(rt; names(alloc, &named, "refused: a/b.aj not-built\n")?);
+    Ok(())
+}
+
+#[test]
+fn the_first_class_file_that_is_none(rt: HostRuntime) -> Result<(), Fail> {
+    let alloc = rt.alloc();
+    let mut bad = C;
+    bad[0] = 0;
+    // A class that extends itself.
+    let mut own = C;
+    own[212] = 2;
+    // It comes before files that aren't built.
+    let named: [(&str, &[u8]); 3] = [("in/A.class", &own), ("in/B.aj", b""), ("in/C.class", &bad)];
+    assert!(rt; names(alloc, &named, "refused: C.class magic\n")?);
+    assert!(rt; names(alloc, &named[..2], "refused: A.class not-built\n")?);
+    // Of two the first is named.
+    let named: [(&str, &[u8]); 2] = [("in/A.class", &C[..9]), ("in/B.class", &bad)];
+    assert!(rt; names(alloc, &named, "refused: A.class truncated 9\n")?);
     Ok(())
 }
 
