@@ -18,6 +18,7 @@ pub mod Machine
 pub mod Start
 pub mod Declarations
 pub mod ClassFiles
+pub mod Run
 pub mod Searches
 pub mod Listed
 pub mod Examples

@@ -3,7 +3,7 @@
 use Rattle.std.specs.Prelude.{◌≡◌, ℕ, List, [], ◌∷◌, map, codes, Some, None}
 use Rattle.std.specs.Option.{unwrap_or}
 use Rattle.std.proofs.Common.{refl}
-use Rattle.event_machine.specs.Observation.{Observation, observed}
+use Rattle.event_machine.specs.Observation.{Observation}
 use Rattle.opcode_table.specs.Decoding.{decoded}
 use Rattle.opcode_table.specs.Table.{opcode}
 use Rattle.class_file.specs.declared.pool.PoolEntry.{PoolEntry}
@@ -14,13 +14,9 @@ use Rattle.class_file.specs.declared.types.Content.TheVariants as content
 use Rattle.class_file.specs.declared.types.CodeAttr.{CodeAttr}
 use Rattle.class_machine.specs.Events.{Event, Ending}
 use Rattle.class_machine.specs.Events as events
-use Rattle.class_machine.specs.Classes.{Method, Classes}
-use Rattle.class_machine.specs.Library.{library}
-use Rattle.class_machine.specs.Declarations.{DeclaredClass, classes_of, method_in, library_class}
+use Rattle.class_machine.specs.Classes.{Method}
 use Rattle.class_machine.specs.Searches.{searched}
-use Rattle.class_machine.specs.Machine.{step}
-use Rattle.class_machine.specs.Start.{start}
-use Rattle.class_machine.specs.ClassFiles.{class_code, declared_by}
+use Rattle.class_machine.specs.Run.{declared_method, class_observation}
 use Rattle.class_machine.specs.Listed.{missing, member}
 use Rattle.class_machine.specs.Examples.{said}
 
@@ -59,18 +55,12 @@ file = record {
   attributes = [];
 }
 
-abbrev pub declarations : List DeclaredClass
-declarations = declared_by file ∷ map library_class library
-
-abbrev pub classes : Classes
-classes = classes_of (searched declarations) declarations
-
 abbrev pub main : Method
-main = unwrap_or (method_in declarations (member (codes "main") (codes "()V")) (codes "C")) (missing (codes "C") (member (codes "main") (codes "()V")))
+main = unwrap_or (declared_method searched (file ∷ []) (member (codes "main") (codes "()V")) (codes "C")) (missing (codes "C") (member (codes "main") (codes "()V")))
 
 -- what is observed within n steps
 abbrev pub runs : ℕ → Observation Event Ending
-runs n = observed (step (class_code (file ∷ [])) classes) n (start (class_code (file ∷ [])) classes [] main [])
+runs = class_observation searched (file ∷ []) [] main []
 
 six_steps : runs 6 ≡ record { events = said (codes "m") ∷ []; ending = Some (events.Returned None) }
 unfolding decoded opcode
