@@ -160,7 +160,8 @@ module _ (searches : Searches) (classes : List DeclaredClass) where
     superclasses = searches.superclasses;
     is_super = λ class. is_class (λ c. c.is_super) (class_named classes class);
     field = λ r. option_and_then (field_in classes r.member) (searches.field r);
-    method = λ r. option_and_then (method_in classes r.member) (searches.method r);
+    -- those of an array type are Object's, where its element class is known
+    method = λ r. if knows r.class then option_and_then (method_in classes r.member) (searches.method r) else None;
     selected = λ class member. option_and_then (method_in classes member) (searches.selected class member);
     fields = λ class. flat_map in_superclass (searches.superclasses class);
     initial = λ r. initial_in r (class_named classes r.class);

@@ -1,5 +1,5 @@
 -- The types that descriptors name (JVMS 4.3.2, 4.3.3), each by its own descriptor.
-use Rattle.std.specs.Prelude.{ℕ, ◌==◌, ◌%◌, Bool, true, false, if◌then◌else◌, List, [], ◌∷◌, ◌++◌, drop, Option, Some, None, ℤ, pos}
+use Rattle.std.specs.Prelude.{ℕ, ◌==◌, ◌%◌, Bool, true, false, not, if◌then◌else◌, List, [], ◌∷◌, ◌++◌, drop, Option, Some, None, ℤ, pos}
 use Rattle.std.specs.Int.{w8, w16, w32, cast_unsigned}
 use Rattle.class_machine.specs.declared.kinds.Kind.{Kind}
 use Rattle.class_machine.specs.declared.kinds.Element.{Element}
@@ -111,9 +111,11 @@ types_in false (b ∷ bytes) =
 abbrev pub parameters_in : List ℕ → List (List ℕ)
 parameters_in descriptor = types_in false (drop 1 descriptor)
 
-abbrev pub behind_bracket : List ℕ → List ℕ
-behind_bracket [] = []
-behind_bracket (b ∷ bytes) = if b == 41 then bytes else behind_bracket bytes
+-- what stands behind the closing bracket; `inside` the name of a class, which ; ends, a bracket is part of the name
+abbrev pub behind_bracket : Bool → List ℕ → List ℕ
+behind_bracket inside [] = []
+behind_bracket true (b ∷ bytes) = behind_bracket (not (b == 59)) bytes
+behind_bracket false (b ∷ bytes) = if b == 41 then bytes else behind_bracket (b == 76) bytes
 
 abbrev pub unless_void : List ℕ → Option (List ℕ)
 unless_void [] = None
@@ -121,4 +123,4 @@ unless_void (b ∷ bytes) = if b == 86 then None else Some (b ∷ bytes)
 
 -- the type of a method's result, and none where it is void
 abbrev pub result_in : List ℕ → Option (List ℕ)
-result_in descriptor = unless_void (behind_bracket descriptor)
+result_in descriptor = unless_void (behind_bracket false descriptor)
