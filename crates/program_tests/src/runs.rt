@@ -38,19 +38,14 @@ pub(crate) fn run(
 ) -> Result<Outcome, AllocError> {
     let words = words(alloc, texts)?;
     let files = files(alloc, named)?;
-    let shelf = MemShelf::new(files, Vec::from_slice(alloc, failing)?)?;
-    let printed = MemSink::new(Vec::from_slice(alloc, unprinted)?);
-    Ok(run_on(alloc, words.as_slice(), shelf, printed))
-}
-
-/// Runs the words over a shelf and a sink.
-fn run_on(alloc: Global, words: &[String], mut shelf: MemShelf, mut printed: MemSink) -> Outcome {
-    let status = weaver_main(alloc, words, &mut shelf, &mut printed).code();
-    Outcome {
+    let mut shelf = MemShelf::new(files, Vec::from_slice(alloc, failing)?)?;
+    let mut printed = MemSink::new(Vec::from_slice(alloc, unprinted)?);
+    let status = weaver_main(alloc, words.as_slice(), &mut shelf, &mut printed).code();
+    Ok(Outcome {
         status,
         shelf,
         printed,
-    }
+    })
 }
 
 /// Weaves these files of the folder `in` to the folder `out`.
@@ -64,9 +59,14 @@ pub(crate) fn weave_files(
     files: Vec<(Name, Vec<u8>)>,
 ) -> Result<Outcome, AllocError> {
     let words = words(alloc, &["weave", "in", "out"])?;
-    let shelf = MemShelf::new(files, Vec::new(alloc))?;
-    let printed = MemSink::new(Vec::new(alloc));
-    Ok(run_on(alloc, words.as_slice(), shelf, printed))
+    let mut shelf = MemShelf::new(files, Vec::new(alloc))?;
+    let mut printed = MemSink::new(Vec::new(alloc));
+    let status = weaver_main(alloc, words.as_slice(), &mut shelf, &mut printed).code();
+    Ok(Outcome {
+        status,
+        shelf,
+        printed,
+    })
 }
 
 /// Whether the run was refused with this line, and left the shelf with so many files.
