@@ -7,3 +7,5 @@ pub mod Searches
 pub mod Numbers
 pub mod Faults
 pub mod Examples
+pub mod OnceLaws
+pub mod WalkLaws
