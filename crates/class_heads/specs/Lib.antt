@@ -9,3 +9,5 @@ pub mod Faults
 pub mod Examples
 pub mod OnceLaws
 pub mod WalkLaws
+pub mod PlaceLaws
+pub mod FaultLaws
