@@ -1,7 +1,7 @@
 -- Laws of lists of places without repeats, for those who keep or search them.
 use Rattle.std.specs.Prelude.{◌≡◌, ℕ, ◌==◌, Bool, true, false, not, ◌&&◌, ◌||◌, cond, ◌⊎◌, List, [], ◌∷◌, ◌++◌, Option, Some, None, refl, nat_eq}
-use Rattle.std.proofs.Common.{sym, ◌∙◌, ap, subst, inl, inr, append_assoc}
-use Rattle.std.specs.List.{filter, list_any, flat_map}
+use Rattle.std.proofs.Common.{sym, ◌∙◌, ap, subst, inl, inr, append_assoc, append-nil}
+use Rattle.std.specs.List.{filter, list_any, flat_map, fold}
 use Rattle.std.specs.Option.{option_map, option_or}
 use Rattle.std.proofs.lemmas.Bool.{eqb-true, eq-eqb, cases_Bool, false≢true}
 use Rattle.std.proofs.lemmas.List.Elements.{filter-append}
@@ -175,3 +175,37 @@ first_found-append search (x ∷ xs) ys =
     by : (o : Option MemberPlace) → option_or o (option_or (first_found search xs) (first_found search ys)) ≡ option_or (option_or o (first_found search xs)) (first_found search ys)
     by (Some m) = refl
     by None = refl
+
+-- ---- a list that is put together
+
+one_added : (b : Bool) (ps : List ℕ) (p : ℕ) → is_among ps p ≡ b → cond b ps (ps ++ p ∷ []) ≡ added ps (p ∷ [])
+one_added true ps p is = sym (append-nil ps) ∙ sym (ap (λ (b : Bool). ps ++ cond (not b) (p ∷ []) []) is)
+one_added false ps p is = sym (ap (λ (b : Bool). ps ++ cond (not b) (p ∷ []) []) is)
+
+eq_swap : (a b : ℕ) → (a == b) ≡ (b == a)
+eq_swap a b = elim (cases_Bool (a == b)) [
+  | inl same ↦ same ∙ sym (eq-eqb b a (sym (eqb-true a b same)))
+  | inr apart ↦ elim (cases_Bool (b == a)) [
+    | inl same ↦ absurd (false≢true (sym apart ∙ eq-eqb a b (sym (eqb-true b a same))))
+    | inr other ↦ apart ∙ sym other
+  ]
+]
+
+among_swap : (ps : List ℕ) (p : ℕ) → list_any (λ other. other == p) ps ≡ is_among ps p
+among_swap [] p = refl
+among_swap (q ∷ ps) p =
+    ap (λ (b : Bool). b || list_any (λ other. other == p) ps) (eq_swap q p) ∙ ap (λ (b : Bool). nat_eq p q || b) (among_swap ps p)
+
+module _ (step : List ℕ → ℕ → List ℕ) (puts : (ps : List ℕ) (p : ℕ) → step ps p ≡ cond (list_any (λ other. other == p) ps) ps (ps ++ p ∷ [])) where
+  fold_onto : (xs seen : List ℕ) → fold step (each_once seen) xs ≡ each_once (seen ++ xs)
+  fold_onto [] seen = ap each_once (sym (append-nil seen))
+  fold_onto (x ∷ xs) seen =
+      ap (λ (acc : List ℕ). fold step acc xs)
+      (puts (each_once seen) x
+      ∙ ap (λ (b : Bool). cond b (each_once seen) (each_once seen ++ x ∷ [])) (among_swap (each_once seen) x)
+      ∙ one_added (is_among (each_once seen) x) (each_once seen) x refl ∙ sym (added_once seen (x ∷ [])))
+      ∙ fold_onto xs (seen ++ x ∷ []) ∙ ap each_once (append_assoc seen (x ∷ []) xs)
+
+  -- to put each place behind the others unless it stands there gives each once
+  pub fold_once : (xs : List ℕ) → fold step [] xs ≡ each_once xs
+  fold_once xs = fold_onto xs []

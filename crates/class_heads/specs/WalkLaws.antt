@@ -73,6 +73,24 @@ walk-path steps (suc most) place high is = by (walk-path steps most) (either_tru
       let path = later found.0 high found.2 in
       (suc path.0, (found.0, among-Contains (steps place) found.0 found.1, path.1))
 
+pub walk-same : (f g : ℕ → List ℕ) → ((place : ℕ) → f place ≡ g place) → (most place : ℕ) → walk f most place ≡ walk g most place
+walk-same f g same zero place = refl
+walk-same f g same (suc most) place =
+    ap (λ (next : List ℕ). place ∷ flat_map (walk f most) next) (same place)
+    ∙ ap (λ (rest : List ℕ). place ∷ rest) (each-same (walk f most) (walk g most) (g place) (λ next there. walk-same f g same most next))
+
+-- what is built as a walk is one
+pub is_walk : (steps : ℕ → List ℕ) (built : ℕ → ℕ → List ℕ) → ((place : ℕ) → built zero place ≡ []) → ((most place : ℕ) → built (suc most) place ≡ place ∷ flat_map (built most) (steps place)) → (most place : ℕ) → built most place ≡ walk steps most place
+is_walk steps built none some zero place = none place
+is_walk steps built none some (suc most) place =
+    some most place
+    ∙ ap (λ (rest : List ℕ). place ∷ rest) (each-same (built most) (walk steps most) (steps place) (λ next there. is_walk steps built none some most next))
+
+pub path-same : (f g : ℕ → List ℕ) → ((place : ℕ) → f place ≡ g place) → (count low high : ℕ) → PathOf f count low high → PathOf g count low high
+path-same f g same zero low high path = path
+path-same f g same (suc count) low high path =
+    (path.0, subst (λ (next : List ℕ). Contains next path.0) (same low) path.1, path-same f g same count path.0 high path.2)
+
 module _ (steps : ℕ → List ℕ) (rank : ℕ → ℕ) (falls : (place next : ℕ) → Contains (steps place) next → rank next < rank place) where
   pub path-walk : (count most place high : ℕ) → PathOf steps count place high → rank place < most → is_among (walk steps most place) high ≡ true
   path-walk count zero place high path within = absurd (omega arith)

@@ -64,40 +64,55 @@ fn class_of(
     })
 }
 
+// The head of a class with one method.
+fn head_with(alloc: Global, flags: u16, synthetic: bool) -> Result<ClassHead, AllocError> {
+    let methods = vec![in alloc; method(alloc, flags, synthetic)?]?;
+    let class = class_of(alloc, pool_with(alloc, b"text")?, methods)?;
+    head_of(alloc, &class)
+}
+
+// Of the head's only method: whether it is synthetic, and how many classes it declares to throw.
+fn only_method(head: &ClassHead) -> Option<(bool, usize)> {
+    match head.methods.as_slice() {
+        [method] => Some((method.is_synthetic, method.exceptions.len())),
+        _ => None,
+    }
+}
+
+#[test]
+fn a_head_has_methods(rt: HostRuntime) -> Result<(), AllocError> {
+    let alloc = rt.alloc();
+    assert_eq!(rt; only_method(&head_with(alloc, 1, false)?), Some((false, 1)));
+    assert_eq!(rt;
+        only_method(&head_with(alloc, 0x1001, false)?),
+        Some((true, 1))
+    );
+    assert_eq!(rt; only_method(&head_with(alloc, 1, true)?), Some((true, 1)));
+    Ok(())
+}
+
 #[test]
 fn a_head_has_names(rt: HostRuntime) -> Result<(), AllocError> {
     let alloc = rt.alloc();
-    let methods = vec![in alloc;
-        method(alloc, 1, false)?,
-        method(alloc, 0x1001, false)?,
-        method(alloc, 1, true)?,
-    ]?;
-    let class = class_of(alloc, pool_with(alloc, b"text")?, methods)?;
-    let head = head_of(alloc, &class)?.copy(alloc)?;
+    let head = head_with(alloc, 1, false)?.copy(alloc)?;
     assert_eq!(rt; head.name.as_slice(), b"p/Low".as_slice());
     assert!(rt; head.super_class.is_some());
-    let mut synthetic = Vec::new(alloc);
-    for method in head.methods.as_slice() {
-        assert_eq!(rt; method.name.name.as_slice(), b"run".as_slice());
-        assert_eq!(rt; method.exceptions.len(), 1);
-        synthetic.push(method.is_synthetic)?;
-    }
-    assert_eq!(rt; synthetic.as_slice(), [false, true, true].as_slice());
     Ok(())
+}
+
+// Whether a class is reserved with the text at index 7 and this entry.
+fn is_reserved_with(alloc: Global, text: &[u8], entry: PoolEntry) -> Result<bool, AllocError> {
+    let mut pool = pool_with(alloc, text)?;
+    pool.push(entry)?;
+    let class = class_of(alloc, pool, Vec::new(alloc))?;
+    is_reserved(alloc, &class)
 }
 
 #[test]
 fn names_are_reserved(rt: HostRuntime) -> Result<(), AllocError> {
     let alloc = rt.alloc();
-    let class = class_of(alloc, pool_with(alloc, b"a.ajc$b")?, Vec::new(alloc))?;
-    assert!(rt; !is_reserved(alloc, &class)?);
-    let mut pool = pool_with(alloc, b"a/ajc$b")?;
-    pool.push(PoolEntry::Class(7))?;
-    let class = class_of(alloc, pool, Vec::new(alloc))?;
-    assert!(rt; is_reserved(alloc, &class)?);
-    let mut pool = pool_with(alloc, b"(Lajc$;)V")?;
-    pool.push(PoolEntry::NameAndType(5, 7))?;
-    let class = class_of(alloc, pool, Vec::new(alloc))?;
-    assert!(rt; is_reserved(alloc, &class)?);
+    assert!(rt; is_reserved_with(alloc, b"a/ajc$b", PoolEntry::Class(7))?);
+    assert!(rt; is_reserved_with(alloc, b"(Lajc$;)V", PoolEntry::NameAndType(5, 7))?);
+    assert!(rt; !is_reserved_with(alloc, b"a/ajc$b", PoolEntry::String(7))?);
     Ok(())
 }
