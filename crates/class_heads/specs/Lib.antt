@@ -11,3 +11,4 @@ pub mod OnceLaws
 pub mod WalkLaws
 pub mod PlaceLaws
 pub mod FaultLaws
+pub mod FirstLaws
