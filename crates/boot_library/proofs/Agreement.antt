@@ -1,5 +1,5 @@
 -- A method of the library has a rule exactly where the heads declare it and it isn't native.
-use Rattle.std.specs.Prelude.{◌≡◌, ◌&&◌, ℕ, Bool, true, false, not, List, [], ◌∷◌, map, cond, if◌then◌else◌, Option, Some, None, is_none, is_some, IsSome, IsTrue, ◌↔◌}
+use Rattle.std.specs.Prelude.{◌≡◌, ℕ, Bool, true, false, not, List, [], ◌∷◌, map, cond, if◌then◌else◌, Option, Some, None, is_none, is_some, IsSome, IsTrue, ◌↔◌}
 use Rattle.std.specs.List.{find}
 use Rattle.std.specs.Option.{option_map, option_and_then}
 use Rattle.std.proofs.Common.{refl, ap, ◌∙◌, sym}
@@ -7,11 +7,11 @@ use Rattle.aj_names.specs.declared.types.MemberName.{MemberName}
 use Rattle.class_heads.specs.declared.types.MethodHead.{MethodHead}
 use Rattle.class_heads.specs.declared.types.ClassHead.{ClassHead}
 use Rattle.class_heads.specs.Heads.{has_flag}
-use Rattle.class_heads.specs.Hierarchy.{class_named, is_named}
+use Rattle.class_heads.specs.Hierarchy.{is_named}
 use Rattle.boot_library.specs.declared.rule.LibraryRule.{LibraryRule}
 use Rattle.boot_library.specs.Library.{LibraryMethod, LibraryClass, library}
-use Rattle.boot_library.specs.Heads.{flags, method_flags, method_head, class_head, library_heads}
-use Rattle.boot_library.specs.Rules.{is_class, is_method, methods_in, rule_among, rule_of, is_method_head, is_native, is_meant, has_rule}
+use Rattle.boot_library.specs.Heads.{flags, method_head, class_head, library_heads}
+use Rattle.boot_library.specs.Rules.{is_class, is_method, methods_in, rule_among, rule_of, is_method_head, is_meant, has_rule}
 
 over_cond : {A B : Type 0} (f : A → B) (b : Bool) (x : A) (rest : Option B) (o : Option A) → rest ≡ option_map f o → cond b (Some (f x)) rest ≡ option_map f (cond b (Some x) o)
 over_cond f true x rest o e = refl

@@ -2,7 +2,7 @@
 use Rattle.std.specs.Prelude.{◌≡◌, ℕ, List, ◌++◌, Option, Some, None}
 use Rattle.std.specs.List.{find}
 use Rattle.std.specs.Option.{option_map, option_or, option_and_then}
-use Rattle.std.proofs.Common.{refl, ap, ◌∙◌, sym, subst}
+use Rattle.std.proofs.Common.{refl, ap, ◌∙◌, sym}
 use Rattle.std.proofs.lemmas.List.Folds.{find-append}
 use Rattle.aj_names.specs.declared.types.MemberName.{MemberName}
 use Rattle.boot_library.specs.declared.rule.LibraryRule.{LibraryRule}

@@ -1,7 +1,7 @@
 -- The library's heads are a library: by computation their names differ, each superclass is there and may have
 -- subclasses, and each stands before the classes below it.
-use Rattle.std.specs.Prelude.{◌≡◌, ℕ, zero, suc, ◌+◌, ◌<◌, ◌≤◌, nat_lt, Bool, true, false, not, ◌&&◌, List, [], length, slice_get, Option, Some, None, is_none}
-use Rattle.std.specs.List.{list_all, All, Contains}
+use Rattle.std.specs.Prelude.{◌≡◌, ℕ, zero, suc, ◌+◌, ◌<◌, ◌≤◌, nat_lt, Bool, true, false, not, ◌&&◌, List, [], length, Option, Some, None, is_none}
+use Rattle.std.specs.List.{list_all, Contains}
 use Rattle.std.proofs.Common.{refl, sym, subst, arith, inl, inr}
 use Rattle.std.proofs.lemmas.List.Elements.{All-contains}
 use Rattle.std.proofs.lemmas.List.Sums.{AllPass-from_list_all}

@@ -1,5 +1,5 @@
 -- A row of the code's table, as the class that it stands for.
-use Rattle.std.specs.Prelude.{ℕ, List, map, Some, None, true, false}
+use Rattle.std.specs.Prelude.{List, map}
 use Rattle.std.specs.Option.{option_copied}
 use Rattle.boot_library.specs.declared.table.ClassKind.{ClassKind}
 use Rattle.boot_library.specs.declared.table.ClassKind.TheVariants as kinds

@@ -72,9 +72,9 @@ fn find_rule(rows: &[MethodRow], method: &MemberName) -> Option<LibraryRule>
     None
 }
 
-/// What a method of the library means, by its class and its own name and descriptor. `None` where
-/// the library has no such class, where the class doesn't declare such a method, inherited ones
-/// included, and where the method is native. No memory is taken.
+/// What a method of the library means, by the class that declares it, its name and its descriptor.
+/// `None` where the library has no such class, where the class inherits the method or doesn't have
+/// it, and where the method is native. No memory is taken.
 pub fn library_rule(class: &InternalName, method: &MemberName) -> Option<LibraryRule>
     ensures exact { result ≡ rule_of class.now method.now }
     ensures agrees { IsSome result ↔ IsTrue (has_rule library_heads class.now method.now) }

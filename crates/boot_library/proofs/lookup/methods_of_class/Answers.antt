@@ -1,5 +1,4 @@
 -- The classes of the sections stand before the exceptions.
-use Rattle.std.specs.Prelude.{◌≡◌, List, Some, None}
 use Rattle.std.specs.List.{flat_map}
 use Rattle.std.specs.Option.{option_map}
 use Rattle.std.proofs.Common.{ap, sym, ◌∙◌}
