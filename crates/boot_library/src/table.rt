@@ -56,7 +56,7 @@ impl MethodRow {
 #[derive(Clone, Copy)]
 pub(crate) struct FieldRow(pub(crate) &'static str, pub(crate) &'static str);
 
-/// What a class may have below it.
+/// Whether a class may have subclasses, or is an interface.
 #[derive(Clone, Copy)]
 pub(crate) enum ClassKind {
     Class,
