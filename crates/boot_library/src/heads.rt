@@ -2,7 +2,7 @@
 
 ghost use Rattle.std.specs.Prelude.{◌≡◌, List, ◌++◌, map, IfOk, OnOk, false};
 ghost use Rattle.std.specs.Option.{option_copied};
-ghost use Rattle.std.specs.List.{Contains};
+ghost use Rattle.std.specs.List.{flat_map, Contains};
 ghost use Rattle.class_heads.specs.declared.types.ClassHead.{ClassHead};
 ghost use Rattle.class_heads.specs.Faults.{IsLibrary, has_wrong_super};
 ghost use Rattle.boot_library.specs.Heads.{member, class_flags, field_head, method_flags, method_head, class_head, library_heads};
@@ -177,6 +177,19 @@ fn push_exceptions(
     Ok(())
 }
 
+fn section_heads(
+    alloc: Global,
+    sections: &[&'static [ClassRow]],
+) -> Result<Vec<ClassHead>, AllocError>
+    ensures { IfOk result (λ heads. heads.items ≡ map class_head (flat_map (λ rows. classes_of rows.now) sections.now)) }
+{
+    let mut heads = Vec::new(alloc);
+    for rows in sections {
+        push_classes(alloc, rows, &mut heads)?;
+    }
+    Ok(heads)
+}
+
 /// The classes and interfaces that are there without being given: the part of the API of Java 5 that
 /// programs here may use. No two have one name, each superclass is one of them, and none is final or
 /// an interface. Only memory can be wanting.
@@ -185,10 +198,7 @@ pub fn library_heads(alloc: Global) -> Result<Vec<ClassHead>, AllocError>
     ensures library { IfOk result (λ heads. IsLibrary heads.items) }
     ensures fitting { IfOk result (λ heads. (c : ClassHead) → Contains heads.items c → has_wrong_super heads.items c ≡ false) }
 {
-    let mut heads = Vec::new(alloc);
-    for rows in sections() {
-        push_classes(alloc, rows, &mut heads)?;
-    }
+    let mut heads = section_heads(alloc, &sections())?;
     push_exceptions(alloc, exceptions(), &mut heads)?;
     Ok(heads)
 }
