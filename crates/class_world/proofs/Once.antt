@@ -1,6 +1,6 @@
 -- Lists of places with each once.
 use Rattle.std.specs.Prelude.{◌≡◌, ℕ, zero, suc, ◌+◌, ◌<◌, ◌==◌, ◌||◌, Bool, true, false, List, [], ◌∷◌, ◌++◌, length, cond, refl}
-use Rattle.std.proofs.Common.{sym, ◌∙◌, ap, subst, inl, inr, arith, get_or, set, drop, get_or-set_same, get_or-set_other}
+use Rattle.std.proofs.Common.{sym, ◌∙◌, ap, subst, inl, inr, arith, rules, length-set, get_or, set, drop, get_or-set_same, get_or-set_other}
 use Rattle.std.specs.List.{All, list_any, fold, flat_map}
 use Rattle.std.proofs.lemmas.List.Sums.{fold-append}
 use Rattle.std.proofs.lemmas.List.Folds.{list_any-append}
@@ -24,6 +24,10 @@ or_true : (b : Bool) → (b || true) ≡ true
 or_true true = refl
 or_true false = refl
 
+or_nothing : (b : Bool) → b ≡ (b || false)
+or_nothing true = refl
+or_nothing false = refl
+
 or_swap : (a b c : Bool) → ((a || b) || c) ≡ (a || (b || c))
 or_swap true b c = refl
 or_swap false b c = refl
@@ -40,10 +44,7 @@ stands_with places p q = elim (cases_Bool (stands_in places p)) [
 ]
 
 pub stands_fold : (xs acc : List ℕ) (q : ℕ) → stands_in (fold with_new acc xs) q ≡ (stands_in acc q || stands_in xs q)
-stands_fold [] acc q = or_nothing (stands_in acc q) where
-  or_nothing : (b : Bool) → b ≡ (b || false)
-  or_nothing true = refl
-  or_nothing false = refl
+stands_fold [] acc q = or_nothing (stands_in acc q)
 stands_fold (x ∷ xs) acc q =
     stands_fold xs (with_new acc x) q ∙ ap (λ b. b || stands_in xs q) (stands_with acc x q) ∙ or_swap (stands_in acc q) (x == q) (stands_in xs q)
 
@@ -80,11 +81,14 @@ flat_map-same g h (s ∷ ss) a =
 pub marked_push : (seen : List Bool) (places : List ℕ) (p : ℕ) → IsMarked seen places → p < length seen → get_or seen p false ≡ false → IsMarked (set seen p true) (with_new places p)
 marked_push seen places p m lt unmarked =
     let absent : stands_in places p ≡ false = sym (m.marked p lt) ∙ unmarked in
-    let len : length (set seen p true) ≡ length seen = search rules in
+    let len : length (set seen p true) ≡ length seen = length-set seen p true in
     rw (with_new-new places p absent) (record {
       within = rw len (All-push (λ q. q < length seen) places p m.within lt);
       marked = λ q below. elim (cases_eq q p) [
-        | inl e ↦ ?
-        | inr apart ↦ ?
+        | inl e ↦ let at : p < length seen = lt in
+            subst (λ x. get_or (set seen p true) x false ≡ stands_in (places ++ p ∷ []) x) (sym e)
+              (get_or-set_same seen p true false at ∙ sym (stands_push places p p ∙ ap (λ b. stands_in places p || b) (eq-eqb p p refl) ∙ or_true (stands_in places p)))
+        | inr apart ↦ get_or-set_other seen p q true false apart ∙ m.marked q (rw (sym len) below) ∙ or_nothing (stands_in places q)
+            ∙ sym (stands_push places p q ∙ ap (λ b. stands_in places q || b) (ne_eqb p q (λ e. apart (sym e))))
       ];
     })

@@ -35,11 +35,12 @@ module _ (steps : List (List ℕ)) where
 
 -- ---- tables of places, which are empty where there is none yet
 
+abbrev pub is_list : List ℕ → Bool
+is_list [] = false
+is_list (other ∷ others) = true
+
 abbrev pub is_filled : List (List ℕ) → ℕ → Bool
-is_filled tables place = is_list (table_at tables place) where
-  is_list : List ℕ → Bool
-  is_list [] = false
-  is_list (other ∷ others) = true
+is_filled tables place = is_list (table_at tables place)
 
 -- the place, then what stands in the tables of its steps, each once
 abbrev pub joined : List (List ℕ) → ℕ → List ℕ → List ℕ
@@ -59,6 +60,12 @@ pub record IsFilled (steps tables : List (List ℕ)) (fuel : ℕ) : Type 0 where
   pub len : length tables ≡ length steps
   pub within : HasTables (length steps) tables
   pub filled : (place : ℕ) → is_filled tables place ≡ true → IsTable steps fuel place (table_at tables place)
+
+-- a place without a table is left, and each table needs no more steps than there are places that aren't left
+pub record IsLeft (steps tables : List (List ℕ)) (left : List ℕ) : Type 0 where
+  pub room : length left ≤ length steps
+  pub filled : IsFilled steps tables (length steps - length left)
+  pub rest : (place : ℕ) → place < length steps → is_filled tables place ≡ false → stands_in left place ≡ true
 
 -- ---- marks of places
 

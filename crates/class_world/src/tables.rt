@@ -17,14 +17,25 @@ pub(crate) enum Tables {
     Stuck(Vec<u32>),
 }
 
+// Whether the place has its table.
+fn has_table(tables: &[Items<u32>], place: u32) -> bool
+    requires { place < length tables.now }
+    ensures { result ≡ is_filled tables.now place }
+{
+    !tables[place as usize].is_empty()
+}
+
 // Whether each of the places has its table.
 fn is_ready(tables: &[Items<u32>], places: &[u32]) -> bool
     requires { AreWithin (length tables.now) places.now }
     ensures { result ≡ list_all (is_filled tables.now) places.now }
 {
-    places
-        .iter()
-        .all(|place| !tables[*place as usize].is_empty())
+    for place in places {
+        if !has_table(tables, *place) {
+            return false;
+        }
+    }
+    true
 }
 
 // Appends those of the places that aren't in the table yet.
