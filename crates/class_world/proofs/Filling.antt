@@ -1,12 +1,14 @@
 -- How the tables fill.
-use Rattle.std.specs.Prelude.{◌≡◌, ℕ, zero, suc, ◌+◌, ◌-◌, ◌≤◌, ◌<◌, ◌==◌, ◌||◌, ◌&&◌, Bool, true, false, not, List, [], ◌∷◌, ◌++◌, length, cond, refl, IsTrue, ◌↔◌}
+use Rattle.std.specs.Prelude.{◌≡◌, ℕ, zero, suc, ◌+◌, ◌-◌, ◌≤◌, ◌<◌, ◌==◌, ◌||◌, ◌&&◌, Bool, true, false, not, List, [], ◌∷◌, ◌++◌, length, take, replicate, cond, refl, IsTrue, ◌↔◌}
 use Rattle.std.proofs.Common.{sym, ◌∙◌, ap, subst, inl, inr, ⊎_elim, arith, rules, get_or, set, drop, get_or-set_same, get_or-set_other, length-set, length-append}
 use Rattle.std.specs.List.{All, list_any, list_all, fold, flat_map}
+use Rattle.std.proofs.lemmas.List.Sums.{fold-append}
+use Rattle.std.proofs.lemmas.List.Concat.{flat_map-append}
 use Rattle.std.proofs.lemmas.List.Folds.{list_any-append, list_all_at, list_any_at}
-use Rattle.std.proofs.lemmas.List.Elements.{All-head, All-tail, All-push, All-cons, All-nil, All-append, All-set, All-get_or, All-weaker}
-use Rattle.std.proofs.lemmas.List.{get_or_past}
-use Rattle.std.proofs.lemmas.Bool.{eqb-true, eq-eqb, ne_eqb, cases_eq, cases_lt, cases_Bool, both_ways, and_parts, or_cases, or_right, or_left, false≢true, true≢false}
-use Rattle.class_world.specs.Places.{table_at, AreWithin, stands_in, with_new, each_once, order, IsBelow, is_filled, is_list, joined, HasTables, IsTable, IsFilled, IsLeft}
+use Rattle.std.proofs.lemmas.List.Elements.{All-head, All-tail, All-push, All-cons, All-nil, All-append, All-replicate, All-set, All-get_or, All-weaker}
+use Rattle.std.proofs.lemmas.List.{get_or_past, get_or-replicate, length-replicate, take_more, drop_all, append-nil, get_or_read, drop_more, append_assoc, length_push}
+use Rattle.std.proofs.lemmas.Bool.{eqb-true, eq-eqb, ne_eqb, cases_eq, cases_lt, cases_Bool, both_ways, and_parts, and_cases, or_cases, or_right, or_left, false≢true, true≢false}
+use Rattle.class_world.specs.Places.{table_at, AreWithin, stands_in, with_new, each_once, order, IsBelow, is_filled, is_list, joined, HasTables, IsTable, IsFilled, IsLeft, AreAll, AreUnready, IsTables, IsStuck, IsRound}
 use Rattle.class_world.proofs.Once.{flat_map-once, flat_map-same, stands_fold}
 
 -- ---- more steps
@@ -119,3 +121,115 @@ one_less steps tables a b p l lt ready =
             stands_less a b p q (l.rest q within (sym (ap is_list other) ∙ empty)) apart
       ];
     }
+
+-- ---- the start and the end
+
+pub not_list : (t : List ℕ) (b : Bool) → IsTrue b ↔ (t ≡ []) → not b ≡ is_list t
+not_list [] b h = ap not (h.1 refl)
+not_list (x ∷ xs) true h = let e = h.0 refl in cc
+not_list (x ∷ xs) false h = refl
+
+pub all_left : (steps : List (List ℕ)) (left : List ℕ) → AreAll (length steps) left → IsLeft steps (replicate (length steps) []) left
+all_left steps left a =
+    let n = length steps in
+    let nothing : List ℕ = [] in
+    let none : (q : ℕ) → is_filled (replicate n []) q ≡ false = λ q. elim (cases_lt q n) [
+      | inl lt ↦ ap is_list (get_or-replicate n q [] [] lt)
+      | inr past ↦ ap is_list (get_or_past (replicate n []) q [] (let l : length (replicate n nothing) ≡ n = length-replicate n nothing in omega (arith, l)))
+    ] in
+    let empty : AreWithin n [] = All-nil (λ q. q < n) in
+    let len = a.len in
+    record {
+      room = omega arith;
+      filled = record {
+        len = length-replicate n [];
+        within = All-replicate (AreWithin n) n [] empty;
+        filled = λ q is. absurd (both_ways (is_filled (replicate n []) q) (none q) is);
+      };
+      rest = λ q within empty. a.each q within;
+    }
+
+pub none_left : (steps tables : List (List ℕ)) → IsLeft steps tables [] → IsTables steps tables
+none_left steps tables l = record {
+  len = l.filled.len;
+  within = l.filled.within;
+  each = λ q lt. elim (cases_Bool (is_filled tables q)) [
+    | inl is ↦ let same : length steps - 0 ≡ length steps = omega arith in subst (λ fuel. IsTable steps fuel q (table_at tables q)) same (l.filled.filled q is)
+    | inr empty ↦ let there : false ≡ true = l.rest q lt empty in absurd (false≢true there)
+  ];
+}
+
+step_to : (n : ℕ) (f g : ℕ → Bool) (ss : List ℕ) → AreWithin n ss → ((s : ℕ) → s < n → f s ≡ false → g s ≡ true) → list_all f ss ≡ false → list_any g ss ≡ true
+step_to n f g [] within h e = absurd (true≢false e)
+step_to n f g (s ∷ ss) within h e = elim (and_cases (f s) (list_all f ss) e) [
+  | inl here ↦ or_left (g s) (list_any g ss) (h s (All-head (λ q. q < n) s ss within) here)
+  | inr there ↦ or_right (g s) (list_any g ss) (step_to n f g ss (All-tail (λ q. q < n) s ss within) h there)
+]
+
+pub stuck_left : (steps tables : List (List ℕ)) (places : List ℕ) → HasTables (length steps) steps → IsLeft steps tables places → AreWithin (length steps) places → 0 < length places → AreUnready steps tables places → IsStuck steps places
+stuck_left steps tables places known l within some unready = record {
+  some = some;
+  within = within;
+  up = All-weaker (λ p. list_all (is_filled tables) (table_at steps p) ≡ false) (λ p. list_any (stands_in places) (table_at steps p) ≡ true)
+         (λ p e. step_to (length steps) (is_filled tables) (stands_in places) (table_at steps p) (table_within (length steps) steps known p) l.rest e) places unready;
+  rest = λ q lt out. elim (cases_Bool (is_filled tables q)) [
+    | inl is ↦ (_, (l.filled.filled q is).below)
+    | inr empty ↦ absurd (both_ways (stands_in places q) out (l.rest q lt empty))
+  ];
+}
+
+-- ---- a loop that puts a table together
+
+pub join_more : (tables : List (List ℕ)) (place : ℕ) (steps : List ℕ) (i : ℕ) (old new row : List ℕ) → i < length steps
+    → old ≡ fold with_new (place ∷ []) (flat_map (table_at tables) (take i steps)) → new ≡ fold with_new old row → row ≡ table_at tables (get_or steps i 0)
+    → new ≡ fold with_new (place ∷ []) (flat_map (table_at tables) (take (i + 1) steps))
+join_more tables place steps i old new row lt was is read =
+    let g = table_at tables in
+    let s = get_or steps i 0 in
+    let front = take i steps in
+    is ∙ ap (λ z. fold with_new z row) was ∙ ap (fold with_new (fold with_new (place ∷ []) (flat_map g front))) read
+    ∙ sym (fold-append with_new (place ∷ []) (flat_map g front) (g s))
+    ∙ ap (λ z. fold with_new (place ∷ []) (flat_map g front ++ z)) (sym (append-nil (g s)))
+    ∙ ap (fold with_new (place ∷ [])) (sym (flat_map-append g front (s ∷ [])))
+    ∙ ap (λ z. fold with_new (place ∷ []) (flat_map g z)) (sym (take_more steps i 0 lt))
+
+-- ---- a round
+
+pub round_start : (steps tables : List (List ℕ)) (all : List ℕ) → IsLeft steps tables all → IsRound steps tables all [] 0
+round_start steps tables all l = record {
+  left = l;
+  places = All-nil (λ q. q < length steps);
+  fewer = omega arith;
+  stuck = λ e. All-nil (λ p. list_all (is_filled tables) (table_at steps p) ≡ false);
+}
+
+pub round_fill : (steps tables tables' : List (List ℕ)) (all waiting : List ℕ) (at place : ℕ) (row new : List ℕ) → IsRound steps tables all waiting at → at < length all → place ≡ get_or all at 0
+    → place < length steps → row ≡ table_at steps place → list_all (is_filled tables) row ≡ true → new ≡ joined tables place row → tables' ≡ set tables place new → IsRound steps tables' all waiting (at + 1)
+round_fill steps tables tables' all waiting at place row new r lt is within row_is ready new_is set_is =
+    let here : drop at all ≡ place ∷ drop (at + 1) all = drop_more all at 0 lt ∙ ap (λ z. z ∷ drop (at + 1) all) (sym is) in
+    let l : IsLeft steps tables (waiting ++ place ∷ drop (at + 1) all) = subst (λ z. IsLeft steps tables (waiting ++ z)) here r.left in
+    let r' : list_all (is_filled tables) (table_at steps place) ≡ true = subst (λ z. list_all (is_filled tables) z ≡ true) row_is ready in
+    let t : tables' ≡ set tables place (joined tables place (table_at steps place)) = set_is ∙ ap (set tables place) (new_is ∙ ap (joined tables place) row_is) in
+    let few = r.fewer in
+    record {
+      left = subst (λ z. IsLeft steps z (waiting ++ drop (at + 1) all)) (sym t) (one_less steps tables waiting (drop (at + 1) all) place l within r');
+      places = r.places;
+      fewer = omega arith;
+      stuck = λ e. absurd (omega arith);
+    }
+
+pub round_wait : (steps tables : List (List ℕ)) (all waiting : List ℕ) (at place : ℕ) (row : List ℕ) → IsRound steps tables all waiting at → at < length all → place ≡ get_or all at 0
+    → place < length steps → row ≡ table_at steps place → list_all (is_filled tables) row ≡ false → IsRound steps tables all (waiting ++ place ∷ []) (at + 1)
+round_wait steps tables all waiting at place row r lt is within row_is unready =
+    let here : drop at all ≡ place ∷ drop (at + 1) all = drop_more all at 0 lt ∙ ap (λ z. z ∷ drop (at + 1) all) (sym is) in
+    let few = r.fewer in
+    record {
+      left = subst (IsLeft steps tables) (ap (λ z. waiting ++ z) here ∙ sym (append_assoc waiting (place ∷ []) (drop (at + 1) all))) r.left;
+      places = All-push (λ q. q < length steps) waiting place r.places within;
+      fewer = omega (arith, length_push waiting place);
+      stuck = λ e. All-push (λ p. list_all (is_filled tables) (table_at steps p) ≡ false) waiting place (r.stuck (omega (arith, length_push waiting place)))
+                (subst (λ z. list_all (is_filled tables) z ≡ false) row_is unready);
+    }
+
+pub round_end : (steps tables : List (List ℕ)) (all waiting : List ℕ) (at : ℕ) → IsRound steps tables all waiting at → length all ≤ at → IsLeft steps tables waiting
+round_end steps tables all waiting at r done = subst (IsLeft steps tables) (ap (λ z. waiting ++ z) (drop_all at all done) ∙ append-nil waiting) r.left

@@ -1,1 +1,4 @@
 pub mod Places
+pub mod Filled
+pub mod Above
+pub mod Tables

@@ -1,6 +1,6 @@
 -- Lists of steps: of each place the places one step up.
-use Rattle.std.specs.Prelude.{◌≡◌, ℕ, zero, suc, ◌+◌, ◌-◌, ◌≤◌, ◌<◌, ◌==◌, ◌||◌, Bool, true, false, not, if◌then◌else◌, List, [], ◌∷◌, ◌++◌, length, slice_index_or, Option, Some, None}
-use Rattle.std.specs.List.{All, Contains, list_any, fold, flat_map}
+use Rattle.std.specs.Prelude.{◌≡◌, ℕ, zero, suc, ◌+◌, ◌-◌, ◌≤◌, ◌<◌, ◌==◌, ◌||◌, Bool, true, false, if◌then◌else◌, List, [], ◌∷◌, ◌++◌, length, drop, slice_index_or, Option, Some, None}
+use Rattle.std.specs.List.{All, Contains, list_any, list_all, fold, flat_map}
 
 -- ---- the order of a walk up
 
@@ -77,9 +77,33 @@ pub record IsMarked (seen : List Bool) (places : List ℕ) : Type 0 where
 abbrev pub IsClear : List Bool → Type 0
 IsClear seen = (place : ℕ) → slice_index_or seen place false ≡ false
 
+-- all places of a list of that length, each once
+pub record AreAll (count : ℕ) (places : List ℕ) : Type 0 where
+  pub len : length places ≡ count
+  pub within : AreWithin count places
+  pub each : (place : ℕ) → place < count → stands_in places place ≡ true
+
 -- ---- filled and stuck tables
+
+-- each of the places has a step to a place without a table
+abbrev pub AreUnready : List (List ℕ) → List (List ℕ) → List ℕ → Type 0
+AreUnready steps tables places = All (λ place. list_all (is_filled tables) (table_at steps place) ≡ false) places
 
 pub record IsTables (steps tables : List (List ℕ)) : Type 0 where
   pub len : length tables ≡ length steps
   pub within : HasTables (length steps) tables
   pub each : (place : ℕ) → place < length steps → IsTable steps (length steps) place (table_at tables place)
+
+-- each of the places has a step to one of them, and from other places each way up comes to an end
+pub record IsStuck (steps : List (List ℕ)) (places : List ℕ) : Type 0 where
+  pub some : 0 < length places
+  pub within : AreWithin (length steps) places
+  pub up : All (λ place. list_any (stands_in places) (table_at steps place) ≡ true) places
+  pub rest : (place : ℕ) → place < length steps → stands_in places place ≡ false → (fuel : ℕ) × IsBelow steps fuel place
+
+-- a round over the places that are left, of which so many were looked at and some still wait
+pub record IsRound (steps tables : List (List ℕ)) (all waiting : List ℕ) (at : ℕ) : Type 0 where
+  pub left : IsLeft steps tables (waiting ++ drop at all)
+  pub places : AreWithin (length steps) waiting
+  pub fewer : length waiting ≤ at
+  pub stuck : length waiting ≡ at → AreUnready steps tables waiting

@@ -1,10 +1,10 @@
 //! Places in lists of steps: of each place the places one step up. The table of a place has the place
 //! and all above it, each once, in the order in which a walk up meets them.
 
-ghost use Rattle.std.specs.Prelude.{◌≡◌, ℕ, ◌+◌, ◌-◌, ◌≤◌, ◌<◌, List, [], ◌∷◌, ◌++◌, length, slice_index_or, IfOk, OnOk, false, Bool};
-ghost use Rattle.std.specs.List.{All, list_all, fold, flat_map};
-ghost use Rattle.class_world.specs.Places.{with_new, AreWithin, IsMarked, IsClear, is_filled, joined, HasTables, IsTables, table_at};
-ghost use Rattle.class_world.specs.Places.{IsFilled};
+ghost use Rattle.std.specs.Prelude.{◌≡◌, ◌≤◌, ◌<◌, ◌^◌, [], ◌∷◌, length, replicate, IfOk, OnOk};
+ghost use Rattle.std.specs.List.{list_all, fold};
+ghost use Rattle.class_world.specs.Places.{with_new, AreWithin, AreAll, AreUnready, IsMarked, IsClear, is_filled, joined, HasTables, IsLeft};
+ghost use Rattle.class_world.specs.Filled.{TablesAre};
 
 use sqlite_items::Items;
 use std::alloc::{AllocError, Global};
@@ -75,7 +75,8 @@ fn join(
     place: u32,
     steps: &[u32],
 ) -> Result<Vec<u32>, AllocError>
-    requires within { AreWithin (length tables.now) (place ∷ steps.now) }
+    requires place { place < length tables.now }
+    requires within { AreWithin (length tables.now) steps.now }
     requires tables { HasTables (length tables.now) tables.now }
     requires clear { IsClear seen.old }
     requires room { length seen.old ≡ length tables.now }
@@ -99,7 +100,19 @@ fn fill_ready(
     tables: &mut [Items<u32>],
     seen: &mut [bool],
     left: &[u32],
-) -> Result<Vec<u32>, AllocError> {
+) -> Result<Vec<u32>, AllocError>
+    requires within { HasTables (length steps.now) steps.now }
+    requires left { IsLeft steps.now tables.old left.now }
+    requires places { AreWithin (length steps.now) left.now }
+    requires clear { IsClear seen.old }
+    requires room { length seen.old ≡ length steps.now }
+    ensures left { IfOk result (λ waiting. IsLeft steps.now tables.new waiting.items) }
+    ensures places { IfOk result (λ waiting. AreWithin (length steps.now) waiting.items) }
+    ensures fewer { IfOk result (λ waiting. length waiting.items ≤ length left.now) }
+    ensures stuck { IfOk result (λ waiting. length waiting.items ≡ length left.now → AreUnready steps.now tables.new waiting.items) }
+    ensures clear { OnOk result (IsClear seen.new) }
+    ensures room { length seen.new ≡ length seen.old }
+{
     let mut waiting = Vec::new(alloc);
     for place in left {
         let at = *place as usize;
@@ -114,7 +127,9 @@ fn fill_ready(
 }
 
 // A table without places for each place.
-fn no_tables(alloc: Global, len: usize) -> Result<Vec<Items<u32>>, AllocError> {
+fn no_tables(alloc: Global, len: usize) -> Result<Vec<Items<u32>>, AllocError>
+    ensures { IfOk result (λ tables. tables.items ≡ replicate len []) }
+{
     let mut tables = Vec::new(alloc);
     for _ in 0..len {
         tables.push(Items::new(alloc))?;
@@ -122,16 +137,29 @@ fn no_tables(alloc: Global, len: usize) -> Result<Vec<Items<u32>>, AllocError> {
     Ok(tables)
 }
 
+// The places of a list of that length, in order.
+fn all_places(alloc: Global, len: usize) -> Result<Vec<u32>, AllocError>
+    requires { len < 2 ^ 32 }
+    ensures { IfOk result (λ places. AreAll len places.items) }
+{
+    let mut places: Vec<u32> = Vec::new(alloc);
+    for place in 0..len {
+        places.push(place as u32)?;
+    }
+    Ok(places)
+}
+
 /// The tables of all places, or the places that are stuck. Each round goes over the places that have
 /// no table yet, so that a place is looked at no more often than there are places above it.
-pub(crate) fn tables_of(alloc: Global, steps: &[Items<u32>]) -> Result<Tables, AllocError> {
+pub(crate) fn tables_of(alloc: Global, steps: &[Items<u32>]) -> Result<Tables, AllocError>
+    requires few { length steps.now < 2 ^ 32 }
+    requires within { HasTables (length steps.now) steps.now }
+    ensures { IfOk result (λ tables. TablesAre steps.now tables) }
+{
     let mut tables = no_tables(alloc, steps.len())?;
     let mut seen = vec![in alloc; false; steps.len()]?;
-    let mut left: Vec<u32> = Vec::new(alloc);
-    for at in 0..steps.len() {
-        left.push(at as u32)?;
-    }
-    while !left.is_empty() {
+    let mut left = all_places(alloc, steps.len())?;
+    'rounds: while !left.is_empty() {
         let waiting = fill_ready(alloc, steps, &mut tables, &mut seen, &left)?;
         if waiting.len() == left.len() {
             return Ok(Tables::Stuck(waiting));

@@ -1,0 +1,69 @@
+//! The world of classes.
+
+ghost use Rattle.std.specs.Prelude.{◌≡◌, IfOk, IfErr, OnOk, ◌⊎◌};
+ghost use Rattle.class_heads.specs.declared.fault.WorldFault.TheVariants.{Memory};
+ghost use Rattle.class_heads.specs.Faults.{world_heads, IsLibrary, IsSound, IsFirstFault};
+
+use aj_names::InternalName;
+use class_file::ClassFile;
+use class_heads::{ClassHead, WorldFault};
+use sqlite_items::Items;
+use std::alloc::Global;
+use std::collections::BTreeMap;
+use std::marker::Model;
+
+/// The classes that there are: those given as files, in their order, then others that are known by
+/// their heads alone, such as a library's. A class is known by its place in this list.
+#[derive(Drop)]
+pub struct World {
+    pub(crate) heads: Vec<ClassHead>,
+    pub(crate) files: Vec<ClassFile>,
+    pub(crate) names: BTreeMap<InternalName, u32>,
+    pub(crate) supers: Vec<Items<u32>>,
+    pub(crate) first_fields: Vec<u32>,
+    pub(crate) first_methods: Vec<u32>,
+}
+
+impl Model for World {
+    ghost use Rattle.class_world.specs.Tables.{Known, IsWorld};
+
+    ghost Value = { Known };
+
+    ghost view = { λ w. record { heads = w.heads.items; files = w.files.items } };
+
+    ghost invariant = { λ w. IsWorld w.heads.items w.files.items w.names w.supers.items w.first_fields.items w.first_methods.items };
+}
+
+impl World {
+    /// The world of the classes of these files and of a library's classes, or the first fault of the
+    /// classes (JVMS 2.6.7, 4.1). Reserved names are no fault of woven classes.
+    pub fn build(
+        alloc: Global,
+        classes: Vec<ClassFile>,
+        library: &[ClassHead],
+        woven: bool,
+    ) -> Result<World, WorldFault>
+        requires { IsLibrary library.now }
+        ensures heads { IfOk result (λ world. world.heads ≡ world_heads classes.items library.now) }
+        ensures files { IfOk result (λ world. world.files ≡ classes.items) }
+        ensures sound { OnOk result (IsSound classes.items library.now woven) }
+        ensures fault { IfErr result (λ fault. (fault ≡ Memory) ⊎ IsFirstFault classes.items library.now woven fault) }
+    {
+        Err(WorldFault::Memory)
+    }
+
+    /// The files of the classes that were given as files, in their order, with no memory taken.
+    pub fn into_files(self) -> Vec<ClassFile>
+        ensures { result.items ≡ self.files }
+    {
+        let World {
+            heads,
+            files,
+            names,
+            supers,
+            first_fields,
+            first_methods,
+        } = self;
+        files
+    }
+}
