@@ -1,4 +1,4 @@
-use Rattle.std.specs.Prelude.{◌<◌, length}
+use Rattle.std.specs.Prelude.{◌<◌, ◌≡◌, length}
 use Rattle.std.proofs.Common.{sym, ◌∙◌, subst, arith, get_or}
 use Rattle.std.proofs.lemmas.List.{get_or_read}
 use Rattle.class_world.specs.Places.{AreWithin, table_at}
