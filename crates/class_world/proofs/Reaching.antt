@@ -75,7 +75,7 @@ pub up_then : (steps : List (List ℕ)) (p q r : ℕ) → IsUp steps p q → sta
 up_then steps p q r h s = (suc h.0, path_then steps (suc h.0) p q r h.1 (stands_contains (table_at steps q) r s))
 
 pub up_first : (steps : List (List ℕ)) (p r : ℕ) → stands_in (table_at steps p) r ≡ true → IsUp steps p r
-up_first steps p r s = (zero, r, stands_contains (table_at steps p) r s, refl)
+up_first steps p r s = (zero, (r, stands_contains (table_at steps p) r s, refl))
 
 -- ---- reaching
 
@@ -156,18 +156,18 @@ no_more (false ∷ f) (true ∷ g) h = let i = no_more f g (λ q. h (suc q)) in 
 
 fewer : (f g : List Bool) (q : ℕ) → Within f g → get_or f q false ≡ false → get_or g q false ≡ true → ticks f < ticks g
 unfolding ticks Within
-fewer f [] q h no yes = absurd (false≢true yes)
-fewer [] (false ∷ g) zero h no yes = absurd (false≢true yes)
-fewer [] (true ∷ g) zero h no yes = let i = no_more [] g (λ q e. absurd (false≢true e)) in omega (arith, i)
-fewer [] (false ∷ g) (suc q) h no yes = fewer [] g q (λ q e. absurd (false≢true e)) refl yes
-fewer [] (true ∷ g) (suc q) h no yes = let i = fewer [] g q (λ q e. absurd (false≢true e)) refl yes in omega (arith, i)
-fewer (true ∷ f) (y ∷ g) zero h no yes = absurd (both_ways true no refl)
-fewer (false ∷ f) (false ∷ g) zero h no yes = absurd (false≢true yes)
-fewer (false ∷ f) (true ∷ g) zero h no yes = let i = no_more f g (λ q. h (suc q)) in omega (arith, i)
-fewer (true ∷ f) (false ∷ g) (suc q) h no yes = absurd (false≢true (h zero refl))
-fewer (true ∷ f) (true ∷ g) (suc q) h no yes = let i = fewer f g q (λ q. h (suc q)) no yes in omega (arith, i)
-fewer (false ∷ f) (false ∷ g) (suc q) h no yes = fewer f g q (λ q. h (suc q)) no yes
-fewer (false ∷ f) (true ∷ g) (suc q) h no yes = let i = fewer f g q (λ q. h (suc q)) no yes in omega (arith, i)
+fewer f [] q h off on = absurd (false≢true on)
+fewer [] (false ∷ g) zero h off on = absurd (false≢true on)
+fewer [] (true ∷ g) zero h off on = let i = no_more [] g (λ q e. absurd (false≢true e)) in omega (arith, i)
+fewer [] (false ∷ g) (suc q) h off on = fewer [] g q (λ q e. absurd (false≢true e)) refl yes
+fewer [] (true ∷ g) (suc q) h off on = let i = fewer [] g q (λ q e. absurd (false≢true e)) refl yes in omega (arith, i)
+fewer (true ∷ f) (y ∷ g) zero h off on = absurd (both_ways true off refl)
+fewer (false ∷ f) (false ∷ g) zero h off on = absurd (false≢true on)
+fewer (false ∷ f) (true ∷ g) zero h off on = let i = no_more f g (λ q. h (suc q)) in omega (arith, i)
+fewer (true ∷ f) (false ∷ g) (suc q) h off on = absurd (false≢true (h zero refl))
+fewer (true ∷ f) (true ∷ g) (suc q) h off on = let i = fewer f g q (λ q. h (suc q)) off on in omega (arith, i)
+fewer (false ∷ f) (false ∷ g) (suc q) h off on = fewer f g q (λ q. h (suc q)) off on
+fewer (false ∷ f) (true ∷ g) (suc q) h off on = let i = fewer f g q (λ q. h (suc q)) off on in omega (arith, i)
 
 some_step : (places xs : List ℕ) → list_any (stands_in places) xs ≡ true → (s : ℕ) × (stands_in xs s ≡ true) × (stands_in places s ≡ true)
 some_step places [] h = absurd (false≢true h)
@@ -176,11 +176,11 @@ some_step places (x ∷ xs) h = elim (or_cases (stands_in places x) (list_any (s
   | inr there ↦ let r = some_step places xs there in (r.0, or_right (x == r.0) (stands_in xs r.0) r.1, r.2)
 ]
 
-AllOff : List (List ℕ) → List ℕ → Type 0
+abbrev AllOff : List (List ℕ) → List ℕ → Type 0
 AllOff steps places = (p : ℕ) → stands_in places p ≡ true → IsJudged steps p false
 
 descend : (steps : List (List ℕ)) (places : List ℕ) → IsStuck steps places → (off : AllOff steps places) → (n p : ℕ) (s : stands_in places p ≡ true) → ticks (off p s).0 < n → ⊥
-unfolding AllOff Within
+unfolding Within
 descend steps places stuck off zero p s lt = omega arith
 descend steps places stuck off (suc n) p s lt =
     let up : list_any (stands_in places) (table_at steps p) ≡ true = All-stands (λ q. list_any (stands_in places) (table_at steps q) ≡ true) places p stuck.up s in
@@ -193,7 +193,6 @@ descend steps places stuck off (suc n) p s lt =
     descend steps places stuck off n next.0 next.2 (omega arith)
 
 pub never_all_off : (steps : List (List ℕ)) (places : List ℕ) → IsStuck steps places → ((p : ℕ) → stands_in places p ≡ true → IsJudged steps p false) → ⊥
-unfolding AllOff
 never_all_off steps places stuck off =
     let p = get_or places 0 0 in
     let s : stands_in places p ≡ true = at_stands places 0 0 stuck.some in

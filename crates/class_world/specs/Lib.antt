@@ -1,4 +1,5 @@
 pub mod Places
 pub mod Filled
 pub mod Above
+pub mod First
 pub mod Tables

@@ -4,6 +4,10 @@
 #![tactic(auto)]
 
 mod circles;
+mod faults;
+mod names;
+mod numbers;
+mod supers;
 mod tables;
 #[cfg(test)]
 mod tests;

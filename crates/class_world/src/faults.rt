@@ -1,0 +1,114 @@
+//! The first class, in the order of names, at which something is wrong.
+
+ghost use Rattle.std.specs.Prelude.{◌≡◌, ◌<◌, ◌≤◌, length, true, IfOk, ForSome};
+ghost use Rattle.class_world.specs.Tables.{HasPlaces};
+ghost use Rattle.class_world.specs.First.{lesser, IsFirst, IsFirstPlace, is_later, is_reserved_at, lacks_super_at, has_wrong_super_at};
+ghost use Rattle.class_world.specs.Places.{IsStuck, HasTables, table_at};
+ghost use Rattle.class_heads.specs.Graph.{LiesOnCircle};
+
+use crate::circles::lies_on_circle;
+use crate::names::{Names, place_named};
+use crate::supers::{has_wrong_super, missing_super};
+use class_file::ClassFile;
+use class_heads::{ClassHead, is_reserved};
+use sqlite_items::Items;
+use std::alloc::{AllocError, Global};
+
+// The place of the two whose class stands first by its name.
+fn lesser(heads: &[ClassHead], best: Option<usize>, place: usize) -> usize
+    requires best { ForSome best (λ best. best < length heads.now) }
+    requires place { place < length heads.now }
+    ensures { result ≡ lesser heads.now best place }
+{
+    match best {
+        Some(best) if heads[place].name < heads[best].name => place,
+        Some(best) => best,
+        None => place,
+    }
+}
+
+/// The first class whose name an earlier one has.
+pub(crate) fn first_later(names: &Names, heads: &[ClassHead]) -> Option<usize>
+    requires { HasPlaces heads.now names.now }
+    ensures { IsFirst heads.now (λ place. is_later heads.now place ≡ true) (length heads.now) result }
+{
+    let mut best = None;
+    for place in 0..heads.len() {
+        if place_named(names, &heads[place].name) != Some(place as u32) {
+            best = Some(lesser(heads, best, place));
+        }
+    }
+    best
+}
+
+/// The first given class that takes a reserved name.
+pub(crate) fn first_reserved(
+    alloc: Global,
+    heads: &[ClassHead],
+    files: &[ClassFile],
+) -> Result<Option<usize>, AllocError>
+    requires { length files.now ≤ length heads.now }
+    ensures { IfOk result (λ first. IsFirst heads.now (λ place. is_reserved_at files.now place ≡ true) (length files.now) first) }
+{
+    let mut best = None;
+    for place in 0..files.len() {
+        if is_reserved(alloc, &files[place])? {
+            best = Some(lesser(heads, best, place));
+        }
+    }
+    Ok(best)
+}
+
+/// The first of so many classes that lacks a supertype.
+pub(crate) fn first_lacking(names: &Names, heads: &[ClassHead], given: usize) -> Option<usize>
+    requires index { HasPlaces heads.now names.now }
+    requires given { given ≤ length heads.now }
+    ensures { IsFirst heads.now (λ place. lacks_super_at heads.now place ≡ true) given result }
+{
+    let mut best = None;
+    for place in 0..given {
+        if missing_super(names, &heads[place]).is_some() {
+            best = Some(lesser(heads, best, place));
+        }
+    }
+    best
+}
+
+/// The first of so many classes of which a supertype is of the wrong kind.
+pub(crate) fn first_wrong(names: &Names, heads: &[ClassHead], given: usize) -> Option<usize>
+    requires index { HasPlaces heads.now names.now }
+    requires given { given ≤ length heads.now }
+    ensures { IsFirst heads.now (λ place. has_wrong_super_at heads.now place ≡ true) given result }
+{
+    let mut best = None;
+    for place in 0..given {
+        if has_wrong_super(names, heads, &heads[place]) {
+            best = Some(lesser(heads, best, place));
+        }
+    }
+    best
+}
+
+/// The first class that lies on a circle, where some places are stuck.
+pub(crate) fn first_on_circle(
+    alloc: Global,
+    heads: &[ClassHead],
+    steps: &[Items<u32>],
+    stuck: &[u32],
+) -> Result<usize, AllocError>
+    requires len { length heads.now ≡ length steps.now }
+    requires within { HasTables (length steps.now) steps.now }
+    requires stuck { IsStuck steps.now stuck.now }
+    ensures { IfOk result (λ place. IsFirstPlace heads.now (LiesOnCircle (table_at steps.now)) (length heads.now) place) }
+{
+    let mut best = None;
+    for place in stuck {
+        if lies_on_circle(alloc, steps, *place)? {
+            best = Some(lesser(heads, best, *place as usize));
+        }
+    }
+    match best {
+        Some(place) => Ok(place),
+        None => Ok(0),
+    }
+}
