@@ -159,8 +159,8 @@ unfolding ticks Within
 fewer f [] q h off on = absurd (false≢true on)
 fewer [] (false ∷ g) zero h off on = absurd (false≢true on)
 fewer [] (true ∷ g) zero h off on = let i = no_more [] g (λ q e. absurd (false≢true e)) in omega (arith, i)
-fewer [] (false ∷ g) (suc q) h off on = fewer [] g q (λ q e. absurd (false≢true e)) refl yes
-fewer [] (true ∷ g) (suc q) h off on = let i = fewer [] g q (λ q e. absurd (false≢true e)) refl yes in omega (arith, i)
+fewer [] (false ∷ g) (suc q) h off on = fewer [] g q (λ q e. absurd (false≢true e)) refl on
+fewer [] (true ∷ g) (suc q) h off on = let i = fewer [] g q (λ q e. absurd (false≢true e)) refl on in omega (arith, i)
 fewer (true ∷ f) (y ∷ g) zero h off on = absurd (both_ways true off refl)
 fewer (false ∷ f) (false ∷ g) zero h off on = absurd (false≢true on)
 fewer (false ∷ f) (true ∷ g) zero h off on = let i = no_more f g (λ q. h (suc q)) in omega (arith, i)

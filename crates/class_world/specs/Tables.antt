@@ -1,5 +1,5 @@
 -- What a world keeps of its classes: tables by which classes, supertypes and members are found.
-use Rattle.std.specs.Prelude.{◌≡◌, ℕ, ◌+◌, ◌^◌, ◌<◌, ◌≤◌, List, [], length, slice_index, slice_index_or, Option, Some}
+use Rattle.std.specs.Prelude.{◌≡◌, ℕ, ◌+◌, ◌^◌, ◌<◌, ◌≤◌, List, [], length, slice_index, slice_index_or, Bool, Option, Some, is_none}
 use Rattle.std.specs.List.{All, sum}
 use Rattle.std.specs.Ordering.{nat_cmp}
 use Rattle.std.specs.Cmp.Lexicographic.{slice_cmp}
@@ -17,6 +17,9 @@ pub record Known : Type 0 where
 -- the place that the index has for a name
 abbrev pub indexed : BTreeMap (List ℕ) ℕ → List ℕ → Option ℕ
 indexed names name = get (slice_cmp nat_cmp) names name
+
+abbrev pub is_unknown : BTreeMap (List ℕ) ℕ → List ℕ → Bool
+is_unknown names name = is_none (indexed names name)
 
 -- the index has the first place of each name
 abbrev pub HasPlaces : List ClassHead → BTreeMap (List ℕ) ℕ → Type 0
@@ -44,6 +47,12 @@ pub record IsFirsts (counts firsts : List ℕ) : Type 0 where
   pub len : length firsts ≡ length counts
   pub few : sum counts < 2 ^ 32
   pub each : (place : ℕ) → place < length counts → slice_index firsts place ≡ first_number counts place
+
+-- the numbers of the first members of the first so many classes, and the next one
+pub record AreFirsts (counts firsts : List ℕ) (count following : ℕ) : Type 0 where
+  pub len : length firsts ≡ count
+  pub next : following ≡ first_number counts count
+  pub each : (place : ℕ) → place < count → slice_index firsts place ≡ first_number counts place
 
 pub record IsWorld (heads : List ClassHead) (files : List ClassFile) (index : BTreeMap (List ℕ) ℕ) (tables : List (List ℕ)) (first_fields first_methods : List ℕ) : Type 0 where
   pub few : length heads < 2 ^ 32

@@ -1,6 +1,7 @@
 //! The first class, in the order of names, at which something is wrong.
 
-ghost use Rattle.std.specs.Prelude.{◌≡◌, ◌<◌, ◌≤◌, length, true, IfOk, ForSome};
+ghost use Rattle.std.specs.Prelude.{◌≡◌, ◌<◌, ◌≤◌, length, true, IfOk};
+ghost use Rattle.std.specs.Option.{ForSome};
 ghost use Rattle.class_world.specs.Tables.{HasPlaces};
 ghost use Rattle.class_world.specs.First.{lesser, IsFirst, IsFirstPlace, is_later, is_reserved_at, lacks_super_at, has_wrong_super_at};
 ghost use Rattle.class_world.specs.Places.{IsStuck, HasTables, table_at};

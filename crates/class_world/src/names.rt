@@ -7,6 +7,7 @@ ghost use Rattle.class_world.specs.Tables.{indexed, HasPlaces};
 
 use aj_names::InternalName;
 use class_heads::ClassHead;
+use sqlite_items::at;
 use std::alloc::{AllocError, Global};
 use std::collections::BTreeMap;
 
@@ -45,7 +46,7 @@ pub(crate) fn class_named<'a>(
     ensures { option_copied result ≡ class_named heads.now name.now }
 {
     match place_named(names, name) {
-        Some(place) => heads.get(place as usize),
+        Some(place) => at(heads, place as usize),
         None => None,
     }
 }

@@ -1,6 +1,6 @@
 //! The numbers of members.
 
-ghost use Rattle.std.specs.Prelude.{◌≡◌, IfOk, IfErr};
+ghost use Rattle.std.specs.Prelude.{◌≡◌, ◌+◌, IfOk, IfErr};
 ghost use Rattle.class_heads.specs.declared.fault.WorldFault.TheVariants.{Memory};
 ghost use Rattle.class_heads.specs.Numbers.{field_counts, method_counts};
 ghost use Rattle.class_world.specs.Tables.{IsFirsts};

@@ -1,12 +1,12 @@
 //! The supertypes that classes name.
 
-ghost use Rattle.std.specs.Prelude.{◌≡◌, ◌<◌, ◌++◌, ◌^◌, length, IfOk, OnOk, is_none};
-ghost use Rattle.std.specs.List.{find, filter_map};
+ghost use Rattle.std.specs.Prelude.{◌≡◌, ◌<◌, ◌++◌, ◌^◌, length, IfOk, OnOk};
+ghost use Rattle.std.specs.List.{find, filter_map, list_any};
 ghost use Rattle.std.specs.Option.{option_copied, option_to_list};
 ghost use Rattle.class_heads.specs.Faults as rule;
 ghost use Rattle.class_heads.specs.Faults.{direct_supers};
 ghost use Rattle.class_heads.specs.Hierarchy as kind;
-ghost use Rattle.class_world.specs.Tables.{indexed, HasPlaces, AreSteps};
+ghost use Rattle.class_world.specs.Tables.{indexed, is_unknown, HasPlaces, AreSteps};
 
 use crate::names::{Names, class_named, place_named};
 use aj_names::InternalName;
@@ -26,21 +26,26 @@ fn is_final(head: &ClassHead) -> bool
     head.flags.0 & 0x0010 == 0x0010
 }
 
-/// The first supertype of the class that isn't there: its superclass, or an interface, in order.
-pub(crate) fn missing_super<'a>(names: &Names, head: &'a ClassHead) -> Option<&'a InternalName>
-    ensures { option_copied result ≡ find (λ name. is_none (indexed names.now name)) (direct_supers head.now) }
+// The first of the names that no class has.
+fn first_unknown<'a>(names: &Names, wanted: &'a [InternalName]) -> Option<&'a InternalName>
+    ensures { option_copied result ≡ find (is_unknown names.now) wanted.now }
 {
-    if let Some(name) = &head.super_class {
-        if place_named(names, name).is_none() {
-            return Some(name);
-        }
-    }
-    for name in head.interfaces.as_slice() {
+    for name in wanted {
         if place_named(names, name).is_none() {
             return Some(name);
         }
     }
     None
+}
+
+/// The first supertype of the class that isn't there: its superclass, or an interface, in order.
+pub(crate) fn missing_super<'a>(names: &Names, head: &'a ClassHead) -> Option<&'a InternalName>
+    ensures { option_copied result ≡ find (is_unknown names.now) (direct_supers head.now) }
+{
+    match &head.super_class {
+        Some(name) if place_named(names, name).is_none() => Some(name),
+        _ => first_unknown(names, head.interfaces.as_slice()),
+    }
 }
 
 fn is_no_superclass(names: &Names, heads: &[ClassHead], name: &InternalName) -> bool
@@ -63,22 +68,27 @@ fn is_no_interface(names: &Names, heads: &[ClassHead], name: &InternalName) -> b
     }
 }
 
-/// Whether a supertype of the class is of the wrong kind (JVMS 4.1).
-pub(crate) fn has_wrong_super(names: &Names, heads: &[ClassHead], head: &ClassHead) -> bool
+fn has_no_interface(names: &Names, heads: &[ClassHead], wanted: &[InternalName]) -> bool
     requires { HasPlaces heads.now names.now }
-    ensures { result ≡ rule.has_wrong_super heads.now head.now }
+    ensures { result ≡ list_any (rule.is_no_interface heads.now) wanted.now }
 {
-    if let Some(name) = &head.super_class {
-        if is_no_superclass(names, heads, name) {
-            return true;
-        }
-    }
-    for name in head.interfaces.as_slice() {
+    for name in wanted {
         if is_no_interface(names, heads, name) {
             return true;
         }
     }
     false
+}
+
+/// Whether a supertype of the class is of the wrong kind (JVMS 4.1).
+pub(crate) fn has_wrong_super(names: &Names, heads: &[ClassHead], head: &ClassHead) -> bool
+    requires { HasPlaces heads.now names.now }
+    ensures { result ≡ rule.has_wrong_super heads.now head.now }
+{
+    match &head.super_class {
+        Some(name) if is_no_superclass(names, heads, name) => true,
+        _ => has_no_interface(names, heads, head.interfaces.as_slice()),
+    }
 }
 
 fn push_place(

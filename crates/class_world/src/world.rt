@@ -44,7 +44,7 @@ impl World {
         woven: bool,
     ) -> Result<World, WorldFault>
         requires { IsLibrary library.now }
-        ensures heads { IfOk result (λ world. world.heads ≡ world_heads classes.items library.now) }
+        ensures heads { IfOk result (λ world. world.heads ≡ world_heads classes.items library.now woven) }
         ensures files { IfOk result (λ world. world.files ≡ classes.items) }
         ensures sound { OnOk result (IsSound classes.items library.now woven) }
         ensures fault { IfErr result (λ fault. (fault ≡ Memory) ⊎ IsFirstFault classes.items library.now woven fault) }
