@@ -2,3 +2,4 @@ pub mod Once
 pub mod Filling
 pub mod Reaching
 pub mod Named
+pub mod Firsts

@@ -1,20 +1,22 @@
 -- Classes by their names.
-use Rattle.std.specs.Prelude.{◌≡◌, ℕ, zero, suc, ◌+◌, ◌-◌, ◌==◌, ◌&&◌, ◌≤◌, ◌<◌, Bool, true, false, List, [], ◌∷◌, ◌++◌, length, take, map, cond, refl, slice_get, Option, Some, None, is_some}
+use Rattle.std.specs.Prelude.{◌≡◌, ℕ, zero, suc, ◌+◌, ◌-◌, ◌==◌, ◌&&◌, ◌≤◌, ◌<◌, Bool, true, false, List, [], ◌∷◌, ◌++◌, length, take, drop, ◌^◌, map, cond, refl, slice_get, Option, Some, None, is_some}
 use Rattle.std.proofs.Common.{sym, ◌∙◌, ap, subst, inl, inr, arith, get_or}
-use Rattle.std.specs.List.{All, find, filter_map, position_from, cons_option}
+use Rattle.std.specs.List.{All, find, filter_map, position_from, cons_option, sum}
 use Rattle.std.specs.Option.{option_or, option_and_then, option_to_list, option_map, unwrap_or}
-use Rattle.std.specs.Ordering.{nat_cmp, is_eq, Equal}
+use Rattle.std.specs.Ordering.{nat_cmp, is_eq}
 use Rattle.std.specs.Cmp.Lexicographic.{slice_cmp}
 use Rattle.std.specs.BTreeMap.{BTreeMap}
 use Rattle.std.specs.Str.{bytes_eq}
-use Rattle.std.proofs.lemmas.List.{take_more, get_or_past, get_or_default, length-take-le, length-map}
-use Rattle.std.proofs.lemmas.List.Elements.{All-nil, All-cons}
+use Rattle.std.proofs.lemmas.List.{take_more, take_all, take-append-drop, drop_more, length_push, get_or_push, get_or_append_left, get_or_past, get_or_default, length-take-le, length-map}
+use Rattle.std.proofs.lemmas.List.Elements.{All-nil, All-cons, filter_map-append}
+use Rattle.std.proofs.lemmas.List.Folds.{find-append}
+use Rattle.std.proofs.lemmas.Grind.{common_steps}
 use Rattle.std.proofs.lemmas.Bool.{cases_Bool, cases_lt, false≢true, both_ways, and_parts, and_from, eqb-true, eq-eqb}
 use Rattle.std.proofs.lemmas.Option.{slice_get-get_or, slice_get-map, unwrap_or-slice_get}
 use Rattle.std.proofs.lemmas.Map.Text.{is_eq-slice_cmp}
 use Rattle.class_heads.specs.declared.types.ClassHead.{ClassHead}
 use Rattle.class_heads.specs.Hierarchy.{is_named, place_of, class_named, super_names, supers_at}
-use Rattle.class_world.specs.Tables.{indexed, HasPlaces, AreSteps}
+use Rattle.class_world.specs.Tables.{indexed, HasPlaces, AreSteps, AreFirsts, IsFirsts}
 
 -- ---- names as bytes
 
@@ -140,3 +142,58 @@ steps_are heads names steps h is =
   by_option : (o : Option ClassHead) → unwrap_or (option_map (named_places names) o) [] ≡ filter_map (place_of heads) (super_names o)
   by_option None = refl
   by_option (Some c) = filter_map-same (indexed names) (place_of heads) (c.interfaces ++ option_to_list c.super_class) h
+
+-- ---- loops over names
+
+pub found_here : {X : Type 0} (t : X → Bool) (xs : List X) (i : ℕ) (x : X) → i < length xs → x ≡ get_or xs i x → find t (take i xs) ≡ None → t x ≡ true → Some x ≡ find t xs
+found_here t xs i x lt is none yes =
+    sym (ap (find t) (sym (take-append-drop i xs)) ∙ find-append t (take i xs) (drop i xs) ∙ ap (λ o. option_or o (find t (drop i xs))) none
+      ∙ ap (find t) (drop_more xs i x lt ∙ ap (λ z. z ∷ drop (i + 1) xs) (sym is)) ∙ ap (λ b. cond b (Some x) (find t (drop (i + 1) xs))) yes)
+
+pub found_later : {X : Type 0} (t : X → Bool) (xs : List X) (i : ℕ) (x : X) → i < length xs → x ≡ get_or xs i x → find t (take i xs) ≡ None → t x ≡ false → find t (take (i + 1) xs) ≡ None
+found_later t xs i x lt is none off =
+    ap (find t) (take_more xs i x lt ∙ ap (λ z. take i xs ++ z ∷ []) (sym is)) ∙ find-append t (take i xs) (x ∷ []) ∙ ap (λ o. option_or o (find t (x ∷ []))) none
+    ∙ ap (λ b. cond b (Some x) None) off
+
+cons_none : {Y : Type 0} (o : Option Y) → cons_option o [] ≡ option_to_list o
+cons_none None = refl
+cons_none (Some y) = refl
+
+pub filter_map-end : {X Y : Type 0} (f : X → Option Y) (xs : List X) (x : X) → filter_map f (xs ++ x ∷ []) ≡ filter_map f xs ++ option_to_list (f x)
+filter_map-end f xs x = filter_map-append f xs (x ∷ []) ∙ ap (λ z. filter_map f xs ++ z) (cons_none (f x))
+
+pub filter_map-one : {X Y : Type 0} (f : X → Option Y) (xs : List X) (i : ℕ) (x : X) (old new : List Y) → i < length xs → x ≡ get_or xs i x → old ≡ filter_map f (take i xs) → new ≡ old ++ option_to_list (f x) → new ≡ filter_map f (take (i + 1) xs)
+filter_map-one f xs i x old new lt is was put =
+    put ∙ ap (λ z. z ++ option_to_list (f x)) was ∙ sym (filter_map-end f (take i xs) x) ∙ ap (filter_map f) (sym (take_more xs i x lt ∙ ap (λ z. take i xs ++ z ∷ []) (sym is)))
+
+-- ---- numbers
+
+pub firsts_start : (counts : List ℕ) → AreFirsts counts [] 0 0
+firsts_start counts = record { len = refl; next = refl; few = omega arith; each = λ p lt. absurd (omega arith) }
+
+pub firsts_more : (counts firsts firsts' : List ℕ) (i count next next' : ℕ) → AreFirsts counts firsts i next → i < length counts → firsts' ≡ firsts ++ next ∷ [] → count ≡ get_or counts i 0 → next' ≡ next + count → next' < 2 ^ 32
+    → AreFirsts counts firsts' (i + 1) next'
+firsts_more counts firsts firsts' i count next next' a lt put is sums few =
+    let len = a.len in
+    let e : length firsts' ≡ length firsts + 1 = ap length put ∙ length_push firsts next in
+    let s : sum (take (i + 1) counts) ≡ sum (take i counts) + get_or counts i 0 = grind (arith, common_steps) in
+    let was = a.next in
+    record {
+      len = omega arith;
+      next = omega arith;
+      few = few;
+      each = λ p below. elim (cases_lt p i) [
+        | inl l ↦ let lf : p < length firsts = omega arith in ap (λ z. get_or z p 0) put ∙ get_or_append_left firsts (next ∷ []) 0 p lf ∙ a.each p l
+        | inr past ↦ let same : p ≡ i = omega arith in subst (λ p. get_or firsts' p 0 ≡ sum (take p counts)) (sym same) (ap (λ z. get_or z i 0) put ∙ get_or_push firsts next 0 i len ∙ was)
+      ];
+    }
+
+pub firsts_end : (counts firsts : List ℕ) (i next : ℕ) → AreFirsts counts firsts i next → i ≡ length counts → IsFirsts counts firsts
+firsts_end counts firsts i next a e =
+    let was : next ≡ sum counts = a.next ∙ ap sum (take_all i counts (omega arith)) in
+    let few = a.few in
+    record {
+      len = a.len ∙ e;
+      few = omega arith;
+      each = λ p lt. a.each p (omega arith);
+    }
