@@ -1,5 +1,5 @@
 -- The first class, in the order of names, of which something holds.
-use Rattle.std.specs.Prelude.{◌≡◌, ℕ, ◌<◌, ◌==◌, Bool, true, false, not, if◌then◌else◌, List, length, slice_get, Option, Some, None, is_some}
+use Rattle.std.specs.Prelude.{◌≡◌, ℕ, ◌<◌, ◌==◌, ◌&&◌, Bool, true, false, not, if◌then◌else◌, List, length, slice_get, Option, Some, None, is_some}
 use Rattle.std.specs.Ordering.{nat_cmp, is_lt}
 use Rattle.std.specs.Cmp.Lexicographic.{slice_cmp}
 use Rattle.class_file.specs.declared.types.ClassFile.{ClassFile}
@@ -54,5 +54,6 @@ abbrev pub is_file_that : (ClassFile → Bool) → Option ClassFile → Bool
 is_file_that test None = false
 is_file_that test (Some c) = test c
 
-abbrev pub is_reserved_at : List ClassFile → ℕ → Bool
-is_reserved_at files place = is_file_that is_reserved (slice_get files place)
+-- a class that isn't woven takes a reserved name
+abbrev pub takes_reserved_at : Bool → List ClassFile → ℕ → Bool
+takes_reserved_at woven files place = is_file_that (λ c. not woven && is_reserved c) (slice_get files place)

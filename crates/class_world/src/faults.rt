@@ -1,9 +1,10 @@
 //! The first class, in the order of names, at which something is wrong.
 
-ghost use Rattle.std.specs.Prelude.{◌≡◌, ◌<◌, ◌≤◌, ◌^◌, length, true, IfOk};
+ghost use Rattle.std.specs.Prelude.{◌≡◌, ◌<◌, ◌≤◌, ◌^◌, ◌&&◌, not, length, true, IfOk};
 ghost use Rattle.std.specs.Option.{ForSome};
 ghost use Rattle.class_world.specs.Tables.{HasPlaces};
-ghost use Rattle.class_world.specs.First.{lesser, better, IsBefore, IsFirst, IsFirstPlace, is_later, is_reserved_at, lacks_super_at, has_wrong_super_at};
+ghost use Rattle.class_heads.specs.Reserved.{is_reserved};
+ghost use Rattle.class_world.specs.First.{lesser, better, IsBefore, IsFirst, IsFirstPlace, is_later, takes_reserved_at, lacks_super_at, has_wrong_super_at};
 ghost use Rattle.class_world.specs.Places.{IsStuck, HasTables, table_at};
 ghost use Rattle.class_heads.specs.Graph.{LiesOnCircle};
 
@@ -70,18 +71,29 @@ pub(crate) fn first_later(names: &Names, heads: &[ClassHead]) -> Option<usize>
     best
 }
 
+// Whether the class takes a reserved name, which a woven one may.
+fn takes_reserved(alloc: Global, file: &ClassFile, woven: bool) -> Result<bool, AllocError>
+    ensures { IfOk result (λ answer. answer ≡ (not woven && is_reserved file.now)) }
+{
+    if woven {
+        return Ok(false);
+    }
+    is_reserved(alloc, file)
+}
+
 /// The first given class that takes a reserved name.
 pub(crate) fn first_reserved(
     alloc: Global,
     heads: &[ClassHead],
     files: &[ClassFile],
+    woven: bool,
 ) -> Result<Option<usize>, AllocError>
     requires { length files.now ≤ length heads.now }
-    ensures { IfOk result (λ first. IsFirst heads.now (IsBefore (length files.now)) (λ place. is_reserved_at files.now place ≡ true) first) }
+    ensures { IfOk result (λ first. IsFirst heads.now (IsBefore (length files.now)) (λ place. takes_reserved_at woven files.now place ≡ true) first) }
 {
     let mut best = None;
     for place in 0..files.len() {
-        let reserved = is_reserved(alloc, &files[place])?;
+        let reserved = takes_reserved(alloc, &files[place], woven)?;
         best = better(heads, best, place, reserved);
     }
     Ok(best)

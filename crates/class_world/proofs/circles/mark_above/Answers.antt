@@ -15,12 +15,13 @@ reaching-init c =
 pub reaching-preserved : goal.reaching-preserved
 reaching-preserved c =
     let lt : c.reaching.at < length c.reaching.reached.items = omega arith in
-    let next = get_or c.reaching.reached.items c.reaching.at 0 in
+    let next = c.index-next.result.now in
+    let is : next ≡ get_or c.reaching.reached.items c.reaching.at 0 = get_or_read c.reaching.reached.items c.reaching.at next lt c.index-next.ensures 0 in
     let room : length c.reaching.seen ≡ length c.args.steps.now = omega (arith, c.requires.room) in
-    let known : next < length c.args.steps.now = let l = c.reaching.invariant.marked.within c.reaching.at 0 lt in omega arith in
+    let known : next < length c.args.steps.now = let l = c.reaching.invariant.marked.within c.reaching.at 0 lt in omega (arith, l, is, room) in
     let row : c.as_slice-in-reaching.result.now ≡ table_at c.args.steps.now next = c.as_slice-in-reaching.ensures ∙ get_or_read c.args.steps.now next c.index-steps-next.result known c.index-steps-next.is _ in
     reaching_more c.args.steps.now c.args.place c.reaching.at c.reaching.seen _ c.reaching.reached.items _ c.reaching.invariant lt c.in_ok-append_new-2.ensures.marked
-      (c.in_ok-append_new-2.ensures.items ∙ ap (fold with_new c.reaching.reached.items) row)
+      (c.in_ok-append_new-2.ensures.items ∙ ap (fold with_new c.reaching.reached.items) (row ∙ ap (table_at c.args.steps.now) is))
 
 pub returns : goal.returns
 returns c =
