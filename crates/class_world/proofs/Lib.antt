@@ -6,3 +6,4 @@ pub mod Firsts
 pub mod Twins
 pub mod Given
 pub mod Rings
+pub mod Built

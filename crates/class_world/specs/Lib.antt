@@ -3,3 +3,4 @@ pub mod Filled
 pub mod Above
 pub mod First
 pub mod Tables
+pub mod Order
