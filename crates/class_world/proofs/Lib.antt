@@ -2,3 +2,9 @@ pub mod Once
 pub mod Filling
 pub mod Reaching
 pub mod Named
+pub mod Dotted
+pub mod Positions
+pub mod Upward
+pub mod NameOrder
+pub mod Below
+pub mod Numbered

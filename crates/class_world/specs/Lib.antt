@@ -2,4 +2,8 @@ pub mod Places
 pub mod Filled
 pub mod Above
 pub mod First
+pub mod Names
 pub mod Tables
+pub mod Naming
+pub mod Found
+pub mod Types

@@ -5,6 +5,7 @@
 
 mod circles;
 mod faults;
+mod lookups;
 mod names;
 mod numbers;
 mod supers;
