@@ -7,3 +7,9 @@ pub mod Twins
 pub mod Given
 pub mod Rings
 pub mod Built
+pub mod Dotted
+pub mod Positions
+pub mod Upward
+pub mod NameOrder
+pub mod Below
+pub mod Numbered

@@ -7,6 +7,7 @@ use Rattle.std.specs.BTreeMap.{BTreeMap, get}
 use Rattle.class_file.specs.declared.types.ClassFile.{ClassFile}
 use Rattle.class_heads.specs.declared.types.ClassHead.{ClassHead}
 use Rattle.class_heads.specs.Hierarchy.{place_of, name_at, supers_at, supertypes}
+use Rattle.class_world.specs.Names.{IsNameOrder}
 use Rattle.class_heads.specs.Numbers.{first_number, field_counts, method_counts}
 
 -- a world as its callers see it: the heads of its classes, and the files of those that were given as files, which come first
@@ -55,10 +56,10 @@ pub record AreFirsts (counts firsts : List ℕ) (count following : ℕ) : Type 0
   pub few : following < 2 ^ 32
   pub each : (place : ℕ) → place < count → slice_index firsts place ≡ first_number counts place
 
-pub record IsWorld (heads : List ClassHead) (files : List ClassFile) (index : BTreeMap (List ℕ) ℕ) (tables : List (List ℕ)) (first_fields first_methods : List ℕ) : Type 0 where
+pub record IsWorld (heads : List ClassHead) (files : List ClassFile) (order : List ℕ) (tables : List (List ℕ)) (first_fields first_methods : List ℕ) : Type 0 where
   pub few : length heads < 2 ^ 32
   pub given : length files ≤ length heads
-  pub names : IsIndex heads index
+  pub names : IsNameOrder heads order
   pub supers : IsSupers heads tables
   pub fields : IsFirsts (field_counts heads) first_fields
   pub methods : IsFirsts (method_counts heads) first_methods

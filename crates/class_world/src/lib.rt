@@ -6,6 +6,7 @@
 mod building;
 mod circles;
 mod faults;
+mod lookups;
 mod names;
 mod numbers;
 mod supers;

@@ -5,14 +5,13 @@ ghost use Rattle.class_heads.specs.declared.fault.WorldFault.TheVariants.{Memory
 ghost use Rattle.class_heads.specs.Faults.{world_heads, IsLibrary, IsSound, IsFirstFault};
 
 use crate::building::{check, heads_of, supers_of};
+use crate::lookups::in_order;
 use crate::names::index_names;
 use crate::numbers::{first_fields, first_methods};
-use aj_names::InternalName;
 use class_file::ClassFile;
 use class_heads::{ClassHead, WorldFault};
 use sqlite_items::Items;
 use std::alloc::Global;
-use std::collections::BTreeMap;
 use std::marker::Model;
 
 /// The classes that there are: those given as files, in their order, then others that are known by
@@ -21,7 +20,7 @@ use std::marker::Model;
 pub struct World {
     pub(crate) heads: Vec<ClassHead>,
     pub(crate) files: Vec<ClassFile>,
-    pub(crate) names: BTreeMap<InternalName, u32>,
+    pub(crate) names: Vec<u32>,
     pub(crate) supers: Vec<Items<u32>>,
     pub(crate) first_fields: Vec<u32>,
     pub(crate) first_methods: Vec<u32>,
@@ -34,7 +33,7 @@ impl Model for World {
 
     ghost view = { λ w. record { heads = w.heads.items; files = w.files.items } };
 
-    ghost invariant = { λ w. IsWorld w.heads.items w.files.items w.names w.supers.items w.first_fields.items w.first_methods.items };
+    ghost invariant = { λ w. IsWorld w.heads.items w.files.items w.names.items w.supers.items w.first_fields.items w.first_methods.items };
 }
 
 // As many classes as places can be told apart by a number.
@@ -64,6 +63,7 @@ impl World {
         let supers = supers_of(alloc, &names, &heads)?;
         let first_fields = first_fields(alloc, &heads)?;
         let first_methods = first_methods(alloc, &heads)?;
+        let names = in_order(alloc, &names)?;
         Ok(World {
             heads,
             files: classes,
