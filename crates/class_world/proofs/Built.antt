@@ -1,5 +1,5 @@
 -- What the steps of a building say of the given classes.
-use Rattle.std.specs.Prelude.{◌≡◌, ℕ, ◌+◌, ◌≤◌, ◌<◌, ◌==◌, Bool, true, false, not, List, ◌++◌, length, map, refl, Option, Some, None}
+use Rattle.std.specs.Prelude.{◌≡◌, ℕ, ◌+◌, ◌≤◌, ◌<◌, ◌==◌, Bool, true, false, not, List, ◌++◌, length, map, refl, Option, Some, None, Result, Err, IfErr}
 use Rattle.std.proofs.Common.{sym, ◌∙◌, ap, subst, inl, inr, ◌⊎◌, arith, length-append}
 use Rattle.std.proofs.lemmas.List.{length-map}
 use Rattle.std.proofs.lemmas.Bool.{false_from_ne_true, not-false, eqb-true, true≢false}
@@ -56,3 +56,7 @@ pub given_few : (heads : List ClassHead) (classes : List ClassFile) (library : L
 given_few heads classes library e =
     let l : length heads ≡ length (map head_of classes) + length library = ap length e ∙ length-append (map head_of classes) library in
     omega (arith, l, length-map classes head_of)
+
+-- what is left at a `?`
+pub exit_err : {T : Type 0} (r : Result T WorldFault) (e : WorldFault) (Q : WorldFault → Type 0) → (y : WorldFault) × (r ≡ Err y) × (y ≡ e) → Q e → IfErr r Q
+exit_err r e Q p q = subst (λ z. IfErr z Q) (sym p.1) (subst Q (sym p.2) q)

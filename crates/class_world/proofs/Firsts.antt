@@ -169,16 +169,16 @@ find_same f g (x ∷ xs) h = ap (λ b. cond b (Some x) (find f xs)) (h x) ∙ ap
 pub missing_same : (heads : List ClassHead) (names : BTreeMap (List ℕ) ℕ) (c : ClassHead) → HasPlaces heads names → find (is_unknown names) (direct_supers c) ≡ missing_super heads c
 missing_same heads names c h = find_same (is_unknown names) (λ name. is_none (place_of heads name)) (direct_supers c) (λ name. ap is_none (h name))
 
-pub lacks_here : (heads : List ClassHead) (names : BTreeMap (List ℕ) ℕ) (place : ℕ) (d : ClassHead) → HasPlaces heads names → place < length heads
-    → is_some (find (is_unknown names) (direct_supers (get_or heads place d))) ≡ lacks_super_at heads place
-lacks_here heads names place d h lt =
-    ap is_some (missing_same heads names (get_or heads place d) h) ∙ sym (ap (is_class_that (λ c. is_some (missing_super heads c))) (slice_get-get_or heads place d lt))
+pub lacks_here : (heads : List ClassHead) (names : BTreeMap (List ℕ) ℕ) (place : ℕ) (head : ClassHead) → HasPlaces heads names → place < length heads → head ≡ get_or heads place head
+    → is_some (find (is_unknown names) (direct_supers head)) ≡ lacks_super_at heads place
+lacks_here heads names place head h lt is =
+    ap is_some (missing_same heads names head h) ∙ sym (ap (is_class_that (λ c. is_some (missing_super heads c))) (slice_get-get_or heads place head lt ∙ ap Some (sym is)))
 
-pub wrong_here : (heads : List ClassHead) (place : ℕ) (d : ClassHead) → place < length heads → has_wrong_super heads (get_or heads place d) ≡ has_wrong_super_at heads place
-wrong_here heads place d lt = sym (ap (is_class_that (has_wrong_super heads)) (slice_get-get_or heads place d lt))
+pub wrong_here : (heads : List ClassHead) (place : ℕ) (head : ClassHead) → place < length heads → head ≡ get_or heads place head → has_wrong_super heads head ≡ has_wrong_super_at heads place
+wrong_here heads place head lt is = sym (ap (is_class_that (has_wrong_super heads)) (slice_get-get_or heads place head lt ∙ ap Some (sym is)))
 
-pub takes_here : (files : List ClassFile) (woven : Bool) (place : ℕ) (d : ClassFile) → place < length files → (not woven && is_reserved (get_or files place d)) ≡ takes_reserved_at woven files place
-takes_here files woven place d lt = sym (ap (is_file_that (λ c. not woven && is_reserved c)) (slice_get-get_or files place d lt))
+pub takes_here : (files : List ClassFile) (woven : Bool) (place : ℕ) (file : ClassFile) → place < length files → file ≡ get_or files place file → (not woven && is_reserved file) ≡ takes_reserved_at woven files place
+takes_here files woven place file lt is = sym (ap (is_file_that (λ c. not woven && is_reserved c)) (slice_get-get_or files place file lt ∙ ap Some (sym is)))
 
 pub is_some_copied : {X Y : Type 0} (f : X → Y) (o : Option X) → is_some o ≡ is_some (option_map f o)
 is_some_copied f None = refl
