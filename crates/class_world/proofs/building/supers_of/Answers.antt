@@ -1,4 +1,4 @@
-use Rattle.std.proofs.Common.{subst, List, ℕ, ◌∙◌}
+use Rattle.std.proofs.Common.{subst, length}
 use Rattle.class_heads.specs.Graph.{LiesOnCircle}
 use Rattle.class_world.specs.Places.{IsTables, table_at}
 use Rattle.class_world.specs.Filled.{TablesAre}
@@ -16,5 +16,5 @@ returns-clause-fault c =
     let place = c.in_ok-place-in-Stuck.place in
     (place,
       ring_place c.args.heads.now c.in_ok-steps.steps.items place c.in_ok-steps.ensures
-        (subst (λ z. IsFirstPlace c.args.heads.now (IsBefore _) (LiesOnCircle (table_at z)) place) c.deref-in-Stuck.ensures.value c.in_ok-place-in-Stuck.ensures),
+        (subst (λ z. IsFirstPlace c.args.heads.now (IsBefore (length c.args.heads.now)) (LiesOnCircle (table_at z)) place) c.deref-in-Stuck.ensures.value c.in_ok-place-in-Stuck.ensures),
       c.in_ok-name_of-in-Stuck.ensures)
