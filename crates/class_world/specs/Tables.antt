@@ -53,6 +53,7 @@ pub record IsFirsts (counts firsts : List ℕ) : Type 0 where
 pub record AreFirsts (counts firsts : List ℕ) (count following : ℕ) : Type 0 where
   pub len : length firsts ≡ count
   pub next : following ≡ first_number counts count
+  pub few : following < 2 ^ 32
   pub each : (place : ℕ) → place < count → slice_index firsts place ≡ first_number counts place
 
 pub record IsWorld (heads : List ClassHead) (files : List ClassFile) (order : List ℕ) (tables : List (List ℕ)) (first_fields first_methods : List ℕ) : Type 0 where

@@ -3,7 +3,7 @@
 ghost use Rattle.std.specs.Prelude.{◌≡◌, ◌<◌, ◌≤◌, ◌^◌, length, IfOk, OnSome};
 ghost use Rattle.std.specs.Option.{option_copied};
 ghost use Rattle.class_heads.specs.Hierarchy.{place_of, class_named};
-ghost use Rattle.class_world.specs.Tables.{indexed, HasPlaces};
+ghost use Rattle.class_world.specs.Tables.{indexed, is_unknown, HasPlaces};
 
 use aj_names::InternalName;
 use class_heads::ClassHead;
@@ -22,7 +22,7 @@ pub(crate) fn index_names(alloc: Global, heads: &[ClassHead]) -> Result<Names, A
     let mut names = BTreeMap::new(alloc);
     for place in 0..heads.len() {
         let name = &heads[place].name;
-        if !names.contains_key(name) {
+        if is_unknown(&names, name) {
             names.insert(name.copy()?, place as u32)?;
         }
     }
@@ -34,6 +34,13 @@ pub(crate) fn place_named(names: &Names, name: &InternalName) -> Option<u32>
     ensures { result ≡ indexed names.now name.now }
 {
     names.get(name).copied()
+}
+
+/// Whether no class has the name.
+pub(crate) fn is_unknown(names: &Names, name: &InternalName) -> bool
+    ensures { result ≡ is_unknown names.now name.now }
+{
+    place_named(names, name).is_none()
 }
 
 /// The class of that name.

@@ -1,6 +1,6 @@
 //! The numbers of members.
 
-ghost use Rattle.std.specs.Prelude.{◌≡◌, ◌+◌, IfOk, IfErr};
+ghost use Rattle.std.specs.Prelude.{◌≡◌, ◌+◌, ◌<◌, ◌^◌, IfOk, IfErr};
 ghost use Rattle.class_heads.specs.declared.fault.WorldFault.TheVariants.{Memory};
 ghost use Rattle.class_heads.specs.Numbers.{field_counts, method_counts};
 ghost use Rattle.class_world.specs.Tables.{IsFirsts};
@@ -11,10 +11,13 @@ use std::alloc::Global;
 // The number behind so many more.
 fn number_after(number: u32, count: usize) -> Result<u32, WorldFault>
     ensures next { IfOk result (λ next. next ≡ number + count) }
+    ensures few { IfOk result (λ next. next < 2 ^ 32) }
     ensures fault { IfErr result (λ fault. fault ≡ Memory) }
 {
-    let sum = u64::from(number) + count as u64;
-    u32::try_from(sum).map_err(|_| WorldFault::Memory)
+    match u32::try_from(count) {
+        Ok(count) => number.checked_add(count).ok_or(WorldFault::Memory),
+        Err(_) => Err(WorldFault::Memory),
+    }
 }
 
 /// The number of the first field of each class.

@@ -8,7 +8,7 @@ ghost use Rattle.class_heads.specs.Faults.{direct_supers};
 ghost use Rattle.class_heads.specs.Hierarchy as kind;
 ghost use Rattle.class_world.specs.Tables.{indexed, is_unknown, HasPlaces, AreSteps};
 
-use crate::names::{Names, class_named, place_named};
+use crate::names::{Names, class_named, is_unknown, place_named};
 use aj_names::InternalName;
 use class_heads::ClassHead;
 use sqlite_items::Items;
@@ -31,7 +31,7 @@ fn first_unknown<'a>(names: &Names, wanted: &'a [InternalName]) -> Option<&'a In
     ensures { option_copied result ≡ find (is_unknown names.now) wanted.now }
 {
     for name in wanted {
-        if place_named(names, name).is_none() {
+        if is_unknown(names, name) {
             return Some(name);
         }
     }
@@ -43,7 +43,7 @@ pub(crate) fn missing_super<'a>(names: &Names, head: &'a ClassHead) -> Option<&'
     ensures { option_copied result ≡ find (is_unknown names.now) (direct_supers head.now) }
 {
     match &head.super_class {
-        Some(name) if place_named(names, name).is_none() => Some(name),
+        Some(name) if is_unknown(names, name) => Some(name),
         _ => first_unknown(names, head.interfaces.as_slice()),
     }
 }
@@ -91,11 +91,28 @@ pub(crate) fn has_wrong_super(names: &Names, heads: &[ClassHead], head: &ClassHe
     }
 }
 
-fn push_place(places: &mut Vec<u32>, names: &Names, name: &InternalName) -> Result<(), AllocError>
+fn push_place(
+    places: &mut Vec<u32>,
+    names: &Names,
+    name: &InternalName,
+) -> Result<(), AllocError>
     ensures { OnOk result (places.new.items ≡ places.old.items ++ option_to_list (indexed names.now name.now)) }
 {
     if let Some(place) = place_named(names, name) {
         places.push(place)?;
+    }
+    Ok(())
+}
+
+fn push_places(
+    places: &mut Vec<u32>,
+    names: &Names,
+    wanted: &[InternalName],
+) -> Result<(), AllocError>
+    ensures { OnOk result (places.new.items ≡ places.old.items ++ filter_map (indexed names.now) wanted.now) }
+{
+    for name in wanted {
+        push_place(places, names, name)?;
     }
     Ok(())
 }
@@ -105,9 +122,7 @@ fn places_above(alloc: Global, names: &Names, head: &ClassHead) -> Result<Vec<u3
     ensures { IfOk result (λ places. places.items ≡ filter_map (indexed names.now) (head.now.interfaces ++ option_to_list head.now.super_class)) }
 {
     let mut places = Vec::new(alloc);
-    for name in head.interfaces.as_slice() {
-        push_place(&mut places, names, name)?;
-    }
+    push_places(&mut places, names, head.interfaces.as_slice())?;
     if let Some(name) = &head.super_class {
         push_place(&mut places, names, name)?;
     }

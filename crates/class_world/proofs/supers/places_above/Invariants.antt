@@ -1,7 +1,0 @@
-use Rattle.std.proofs.Common.{◌≡◌, take}
-use Rattle.std.specs.List.{filter_map}
-use Rattle.class_world.specs.Tables.{indexed}
-use Rattle.class_world.proofs.supers.places_above.Given as goal
-
-abbrev pub invariant-loop-name : goal.invariant-loop-name
-invariant-loop-name l = l.places.items ≡ filter_map (indexed l.names) (take l.name-index l.head.interfaces)
