@@ -12,3 +12,4 @@ pub mod Firsts
 pub mod Twins
 pub mod Given
 pub mod Rings
+pub mod Asked
