@@ -1,5 +1,12 @@
 -- The first class, in the order of names, among more and more places.
-use Rattle.std.specs.Prelude.{◌≡◌, ℕ, suc, ◌+◌, ◌<◌, ◌≤◌, ◌==◌, ◌||◌, length, take, Bool, true, false, List, [], ◌∷◌, cond, refl, Option, Some, None}
+use Rattle.std.specs.Prelude.{◌≡◌, ℕ, suc, ◌+◌, ◌<◌, ◌≤◌, ◌==◌, ◌||◌, length, take, Bool, true, false, List, [], ◌∷◌, cond, refl, not, ◌&&◌, is_some, is_none, Option, Some, None}
+use Rattle.std.specs.BTreeMap.{BTreeMap}
+use Rattle.std.specs.List.{find}
+use Rattle.std.specs.Option.{option_map}
+use Rattle.std.proofs.lemmas.Option.{slice_get-get_or}
+use Rattle.class_file.specs.declared.types.ClassFile.{ClassFile}
+use Rattle.class_heads.specs.Reserved.{is_reserved}
+use Rattle.class_world.specs.Tables.{HasPlaces, is_unknown}
 use Rattle.std.proofs.Common.{sym, ◌∙◌, ap, subst, inl, inr, arith, ◌⊎◌, get_or}
 use Rattle.std.specs.Ordering.{nat_cmp, is_lt, is_gt, ordering_reverse}
 use Rattle.std.specs.declared.cmp.Ordering.{Ordering}
@@ -9,14 +16,14 @@ use Rattle.std.proofs.lemmas.Cmp.{nat_list_cmp_total, tied_itself, upto}
 use Rattle.std.proofs.lemmas.Bool.{false≢true, true≢false, cases_lt, both_ways, or_cases, or_left, or_right, eqb-true, eq-eqb}
 use Rattle.std.proofs.lemmas.List.{take_more, take_all}
 use Rattle.class_heads.specs.declared.types.ClassHead.{ClassHead}
-use Rattle.class_heads.specs.Hierarchy.{name_at}
-use Rattle.class_heads.specs.Faults.{IsAtMost}
+use Rattle.class_heads.specs.Hierarchy.{place_of, name_at}
+use Rattle.class_heads.specs.Faults.{IsAtMost, direct_supers, missing_super, is_class_that, has_wrong_super}
 use Rattle.class_heads.specs.Graph.{LiesOnCircle}
 use Rattle.class_world.specs.Places.{table_at, stands_in, IsStuck}
 use Rattle.class_world.specs.Above.{IsJudged}
 use Rattle.class_world.proofs.Once.{stands_push}
 use Rattle.class_world.proofs.Reaching.{judged_on, judged_off, on_circle_stands, never_all_off, All-stands}
-use Rattle.class_world.specs.First.{lesser, better, IsBefore, IsFirst, IsFirstPlace}
+use Rattle.class_world.specs.First.{lesser, better, IsBefore, IsFirst, IsFirstPlace, is_file_that, takes_reserved_at, lacks_super_at, has_wrong_super_at}
 
 not_above : (o : Ordering) → (o ≡ Greater → ⊥) → is_gt o ≡ false
 not_above Less h = refl
@@ -31,7 +38,7 @@ above_not Greater h e = true≢false h
 less_not_above : (o : Ordering) → is_lt o ≡ true → is_gt o ≡ false
 less_not_above Less h = refl
 less_not_above Equal h = refl
-less_not_above Greater h = refl
+less_not_above Greater h = absurd (false≢true h)
 
 not_less_back : (o : Ordering) → is_lt o ≡ false → is_gt (ordering_reverse o) ≡ false
 not_less_back Less h = absurd (true≢false h)
@@ -152,3 +159,27 @@ circle_end heads steps stuck i p done len s f =
 
 pub circle_somewhere : (steps : List (List ℕ)) (stuck : List ℕ) (i : ℕ) → length stuck ≤ i → IsStuck steps stuck → ((q : ℕ) → stands_in (take i stuck) q ≡ true → IsJudged steps q false) → ⊥
 circle_somewhere steps stuck i done s off = never_all_off steps stuck s (λ q h. off q (ap (λ z. stands_in z q) (take_all i stuck done) ∙ h))
+
+-- ---- what is judged at a place
+
+find_same : {X : Type 0} (f g : X → Bool) (xs : List X) → ((x : X) → f x ≡ g x) → find f xs ≡ find g xs
+find_same f g [] h = refl
+find_same f g (x ∷ xs) h = ap (λ b. cond b (Some x) (find f xs)) (h x) ∙ ap (cond (g x) (Some x)) (find_same f g xs h)
+
+pub missing_same : (heads : List ClassHead) (names : BTreeMap (List ℕ) ℕ) (c : ClassHead) → HasPlaces heads names → find (is_unknown names) (direct_supers c) ≡ missing_super heads c
+missing_same heads names c h = find_same (is_unknown names) (λ name. is_none (place_of heads name)) (direct_supers c) (λ name. ap is_none (h name))
+
+pub lacks_here : (heads : List ClassHead) (names : BTreeMap (List ℕ) ℕ) (place : ℕ) (head : ClassHead) → HasPlaces heads names → place < length heads → head ≡ get_or heads place head
+    → is_some (find (is_unknown names) (direct_supers head)) ≡ lacks_super_at heads place
+lacks_here heads names place head h lt is =
+    ap is_some (missing_same heads names head h) ∙ sym (ap (is_class_that (λ c. is_some (missing_super heads c))) (slice_get-get_or heads place head lt ∙ ap Some (sym is)))
+
+pub wrong_here : (heads : List ClassHead) (place : ℕ) (head : ClassHead) → place < length heads → head ≡ get_or heads place head → has_wrong_super heads head ≡ has_wrong_super_at heads place
+wrong_here heads place head lt is = sym (ap (is_class_that (has_wrong_super heads)) (slice_get-get_or heads place head lt ∙ ap Some (sym is)))
+
+pub takes_here : (files : List ClassFile) (woven : Bool) (place : ℕ) (file : ClassFile) → place < length files → file ≡ get_or files place file → (not woven && is_reserved file) ≡ takes_reserved_at woven files place
+takes_here files woven place file lt is = sym (ap (is_file_that (λ c. not woven && is_reserved c)) (slice_get-get_or files place file lt ∙ ap Some (sym is)))
+
+pub is_some_copied : {X Y : Type 0} (f : X → Y) (o : Option X) → is_some o ≡ is_some (option_map f o)
+is_some_copied f None = refl
+is_some_copied f (Some x) = refl

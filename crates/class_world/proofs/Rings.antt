@@ -18,6 +18,8 @@ use Rattle.class_heads.specs.Faults.{IsAtMost, direct_supers, missing_super, wor
 use Rattle.class_world.specs.First.{IsBefore, IsFirstPlace}
 use Rattle.class_world.specs.Places.{table_at, stands_in, with_new, each_once, order, IsTables}
 use Rattle.class_world.specs.Tables.{AreSteps, IsSupers}
+use Rattle.class_world.specs.Order.{AreTabled}
+use Rattle.class_world.proofs.Reaching.{below_off}
 use Rattle.class_world.proofs.Once.{flat_map-same, with_new-there, with_new-new, stands_push}
 use Rattle.class_world.proofs.Named.{same_bytes}
 use Rattle.class_world.proofs.Twins.{position_passes, get_front, get_behind}
@@ -231,3 +233,21 @@ module _ (classes : List ClassFile) (library : List ClassHead) (woven : Bool) (l
       let at = contained_at classes c k in
       none at.0 (slice_get_within (world_heads classes library woven) at.0 (head_of c) (head_given classes library woven at.0 c at.2))
         (subst (IsOnCircleAt (world_heads classes library woven)) (place_given at.0 c at.2) holds)
+
+-- ---- by the steps that the code keeps
+
+pub tabled : (heads : List ClassHead) (steps tables : List (List ℕ)) → AreSteps heads steps → IsTables steps tables → AreTabled heads tables
+tabled heads steps tables s t = record {
+  supers = supers_are heads steps tables s t;
+  ending = λ p lt on.
+    let l = s.len in
+    let table = t.each p (omega arith) in
+    below_off steps (length steps) on.0 p table.below (path_same (supers_at heads) (table_at steps) (λ q. sym (s.each q)) (suc on.0) p p on.1);
+}
+
+pub ring_place : (heads : List ClassHead) (steps : List (List ℕ)) (p : ℕ) → AreSteps heads steps → IsFirstPlace heads (IsBefore (length heads)) (LiesOnCircle (table_at steps)) p → IsFirstPlace heads (IsBefore (length heads)) (LiesOnCircle (supers_at heads)) p
+ring_place heads steps p s f = record {
+  among = f.among;
+  holds = (f.holds.0, path_same (table_at steps) (supers_at heads) s.each (suc f.holds.0) p p f.holds.1);
+  least = λ q lt on. f.least q lt (on.0, path_same (supers_at heads) (table_at steps) (λ r. sym (s.each r)) (suc on.0) q q on.1);
+}

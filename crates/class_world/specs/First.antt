@@ -12,6 +12,11 @@ use Rattle.class_heads.specs.Faults.{IsAtMost, is_class_that, missing_super, has
 abbrev pub IsBefore : ℕ → ℕ → Type 0
 IsBefore count place = place < count
 
+-- it isn't that place
+abbrev pub is_other : Option ℕ → ℕ → Bool
+is_other None place = true
+is_other (Some first) place = not (first == place)
+
 module _ (heads : List ClassHead) where
   -- the one of the two places whose name stands first
   abbrev pub lesser : Option ℕ → ℕ → ℕ
@@ -35,10 +40,6 @@ module _ (heads : List ClassHead) where
   IsFirst Among Holds (Some place) = IsFirstPlace Among Holds place
 
   -- ---- what may hold of the class at a place
-
-  abbrev pub is_other : Option ℕ → ℕ → Bool
-  is_other None place = true
-  is_other (Some first) place = not (first == place)
 
   -- an earlier class has its name
   abbrev pub is_later : ℕ → Bool

@@ -4,6 +4,7 @@ pub mod Above
 pub mod First
 pub mod Names
 pub mod Tables
+pub mod Order
 pub mod Naming
 pub mod Found
 pub mod Types

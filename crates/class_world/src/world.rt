@@ -4,6 +4,10 @@ ghost use Rattle.std.specs.Prelude.{◌≡◌, IfOk, IfErr, OnOk, ◌⊎◌};
 ghost use Rattle.class_heads.specs.declared.fault.WorldFault.TheVariants.{Memory};
 ghost use Rattle.class_heads.specs.Faults.{world_heads, IsLibrary, IsSound, IsFirstFault};
 
+use crate::building::{check, heads_of, supers_of};
+use crate::lookups::in_order;
+use crate::names::index_names;
+use crate::numbers::{first_fields, first_methods};
 use class_file::ClassFile;
 use class_heads::{ClassHead, WorldFault};
 use sqlite_items::Items;
@@ -32,6 +36,9 @@ impl Model for World {
     ghost invariant = { λ w. IsWorld w.heads.items w.files.items w.names.items w.supers.items w.first_fields.items w.first_methods.items };
 }
 
+// As many classes as places can be told apart by a number.
+const MOST: usize = 4294967295;
+
 impl World {
     /// The world of the classes of these files and of a library's classes, or the first fault of the
     /// classes (JVMS 2.6.7, 4.1). Reserved names are no fault of woven classes.
@@ -47,7 +54,24 @@ impl World {
         ensures sound { OnOk result (IsSound classes.items library.now woven) }
         ensures fault { IfErr result (λ fault. (fault ≡ Memory) ⊎ IsFirstFault classes.items library.now woven fault) }
     {
-        Err(WorldFault::Memory)
+        let heads = heads_of(alloc, &classes, library)?;
+        if heads.len() > MOST {
+            return Err(WorldFault::Memory);
+        }
+        let names = index_names(alloc, &heads)?;
+        check(alloc, &names, &heads, &classes, woven)?;
+        let supers = supers_of(alloc, &names, &heads)?;
+        let first_fields = first_fields(alloc, &heads)?;
+        let first_methods = first_methods(alloc, &heads)?;
+        let names = in_order(alloc, &names)?;
+        Ok(World {
+            heads,
+            files: classes,
+            names,
+            supers,
+            first_fields,
+            first_methods,
+        })
     }
 
     /// The files of the classes that were given as files, in their order, with no memory taken.
