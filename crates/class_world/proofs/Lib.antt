@@ -13,8 +13,4 @@ pub mod Upward
 pub mod NameOrder
 pub mod Below
 pub mod Numbered
-pub mod Firsts
-pub mod Twins
-pub mod Given
-pub mod Rings
 pub mod Asked
