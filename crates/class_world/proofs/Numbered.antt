@@ -185,6 +185,7 @@ pub record HasNumber (counts firsts : List ℕ) (found : Found) : Type 0 where
   pub class : found.class < length firsts
   pub fits : get_or firsts found.class 0 + found.position < 2 ^ 32
   pub is : get_or firsts found.class 0 + found.position ≡ number_of counts (member_place found)
+  pub less : get_or firsts found.class 0 + found.position < sum counts
 
 pub has_number : (counts firsts : List ℕ) (found : Found) → IsFirsts counts firsts → Stands counts found.class found.position → HasNumber counts firsts found
 has_number counts firsts found f s =
@@ -195,4 +196,5 @@ has_number counts firsts found f s =
       class = omega (arith, f.len);
       fits = omega (arith, f.few);
       is = omega arith;
+      less = omega arith;
     }

@@ -32,11 +32,11 @@ number c =
     field_number heads c.as_slice-2.result.now c.args.class.0 c.args.member.now c.first_field.result c.in_ok-found.found same
     (searched (goal.at.number_of-requires-clause-class c).After-first_field) c.in_ok-found.was
 
-pub returns-in_err-found : goal.returns-in_err-found
-returns-in_err-found c =
+pub returns-in_err-found-clause-number : goal.returns-in_err-found-clause-number
+returns-in_err-found-clause-number c =
     let heads = c.args.self.now.heads in
     ap (option_map (λ (field : FieldId). field.0)) c.from_residual.ensures
-    ∙ numbered_none (field_counts heads) c.first_field.result (find_field heads c.args.class.0 c.args.member.now) (searched (goal.at.returns-in_err-found c).After-first_field) c.in_err-found.was
+    ∙ numbered_none (field_counts heads) c.first_field.result (find_field heads c.args.class.0 c.args.member.now) (searched (goal.at.returns-in_err-found-clause-number c).After-first_field) c.in_err-found.was
 
 pub number_of-requires-clause-class : goal.number_of-requires-clause-class
 number_of-requires-clause-class c = (number c).class
@@ -44,9 +44,12 @@ number_of-requires-clause-class c = (number c).class
 pub number_of-requires-clause-fits : goal.number_of-requires-clause-fits
 number_of-requires-clause-fits c = (number c).fits
 
-pub returns : goal.returns
-returns c =
+pub returns-clause-number : goal.returns-clause-number
+returns-clause-number c =
     let heads = c.args.self.now.heads in
-    let here = (goal.at.returns c).After-as_slice-2 in
+    let here = (goal.at.returns-clause-number c).After-as_slice-2 in
     numbered_some (field_counts heads) c.as_slice-2.result.now c.number_of.result c.first_field.result c.in_ok-found.found (find_field heads c.args.class.0 c.args.member.now)
-    (searched (goal.at.returns c).After-first_field) c.in_ok-found.was (number here) c.number_of.ensures
+    (searched (goal.at.returns-clause-number c).After-first_field) c.in_ok-found.was (number here) c.number_of.ensures
+
+pub returns-clause-within : goal.returns-clause-within
+returns-clause-within c = let n = number (goal.at.returns-clause-within c).After-as_slice-2 in omega (arith, n.less, c.number_of.ensures)

@@ -33,9 +33,12 @@ number_of-requires-clause-class c = (number c).class
 pub number_of-requires-clause-fits : goal.number_of-requires-clause-fits
 number_of-requires-clause-fits c = (number c).fits
 
-pub returns : goal.returns
-returns c =
+pub returns-clause-number : goal.returns-clause-number
+returns-clause-number c =
     let heads = c.args.self.now.heads in
-    let here = (goal.at.returns c).After-as_slice-3 in
+    let here = (goal.at.returns-clause-number c).After-as_slice-3 in
     numbered_some (method_counts heads) c.as_slice-3.result.now c.number_of.result c.find_method.result c.in_ok-found.found (find_method heads c.args.class.0 c.args.member.now)
-    (searched (goal.at.returns c).After-find_method) c.in_ok-found.was (number here) c.number_of.ensures
+    (searched (goal.at.returns-clause-number c).After-find_method) c.in_ok-found.was (number here) c.number_of.ensures
+
+pub returns-clause-within : goal.returns-clause-within
+returns-clause-within c = let n = number (goal.at.returns-clause-within c).After-as_slice-3 in omega (arith, n.less, c.number_of.ensures)

@@ -41,11 +41,11 @@ number c =
     let same = subst (λ (f : List ℕ). IsFirsts (method_counts heads) f) (sym c.as_slice-4.ensures.value) firsts in
     selected_number heads c.as_slice-4.result.now c.args.runtime.0 c.args.method.0 (member_place c.member_of-found.result) c.select.result c.in_ok-selected.selected same (own here) (selected_own here) c.in_ok-selected.was
 
-pub returns-in_err-selected : goal.returns-in_err-selected
-returns-in_err-selected c = λ found n.
+pub returns-in_err-selected-clause-number : goal.returns-in_err-selected-clause-number
+returns-in_err-selected-clause-number c = λ found n.
     let heads = c.args.self.now.heads in
     ap (option_map (λ (m : MethodId). m.0)) c.from_residual.ensures
-    ∙ numbered_none (method_counts heads) c.select.result (select heads c.args.runtime.0 found) (searched (goal.at.returns-in_err-selected c).After-select found n) c.in_err-selected.was
+    ∙ numbered_none (method_counts heads) c.select.result (select heads c.args.runtime.0 found) (searched (goal.at.returns-in_err-selected-clause-number c).After-select found n) c.in_err-selected.was
 
 pub number_of-requires-clause-class : goal.number_of-requires-clause-class
 number_of-requires-clause-class c = (number c).class
@@ -53,9 +53,12 @@ number_of-requires-clause-class c = (number c).class
 pub number_of-requires-clause-fits : goal.number_of-requires-clause-fits
 number_of-requires-clause-fits c = (number c).fits
 
-pub returns : goal.returns
-returns c = λ found n.
+pub returns-clause-number : goal.returns-clause-number
+returns-clause-number c = λ found n.
     let heads = c.args.self.now.heads in
-    let here = (goal.at.returns c).After-as_slice-4 in
+    let here = (goal.at.returns-clause-number c).After-as_slice-4 in
     numbered_some (method_counts heads) c.as_slice-4.result.now c.number_of.result c.select.result c.in_ok-selected.selected (select heads c.args.runtime.0 found)
-    (searched (goal.at.returns c).After-select found n) c.in_ok-selected.was (number here) c.number_of.ensures
+    (searched (goal.at.returns-clause-number c).After-select found n) c.in_ok-selected.was (number here) c.number_of.ensures
+
+pub returns-clause-within : goal.returns-clause-within
+returns-clause-within c = let n = number (goal.at.returns-clause-within c).After-as_slice-4 in omega (arith, n.less, c.number_of.ensures)
