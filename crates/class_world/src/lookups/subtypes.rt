@@ -151,8 +151,5 @@ pub(crate) fn supertype<'a>(
     }
     let class = place_of(heads, names, low)?;
     let place = supers[class as usize].get(index as usize)?;
-    match heads.get(*place as usize) {
-        Some(head) => Some(&head.name),
-        None => None,
-    }
+    Some(&heads[*place as usize].name)
 }
