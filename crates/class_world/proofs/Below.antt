@@ -17,9 +17,9 @@ use Rattle.class_world.proofs.Positions.{position_from-none}
 pub below_by_table : (heads : List ClassHead) (low high : List ℕ) (l h : ℕ) (table : List ℕ) (answer : Bool) → bytes_eq low high ≡ false → place_of heads low ≡ Some l → place_of heads high ≡ Some h → table ≡ supertypes heads l → answer ≡ list_any (nat_eq h) table → answer ≡ is_class_below heads low high
 below_by_table heads low high l h table answer other pl ph t a =
     let e : is_class_below heads low high ≡ is_among_supertypes heads (Some l) (Some h) =
-        ap (λ b. b || is_among_supertypes heads (place_of heads low) (place_of heads high)) other
-        ∙ ap (λ o. is_among_supertypes heads o (place_of heads high)) pl
-        ∙ ap (λ o. is_among_supertypes heads (Some l) o) ph in
+    ap (λ b. b || is_among_supertypes heads (place_of heads low) (place_of heads high)) other
+    ∙ ap (λ o. is_among_supertypes heads o (place_of heads high)) pl
+    ∙ ap (λ o. is_among_supertypes heads (Some l) o) ph in
     a ∙ ap (list_any (nat_eq h)) t ∙ sym e
 
 -- the entry of a known class's supertypes, by its table
@@ -43,13 +43,13 @@ place_of-unknown : (heads : List ClassHead) (name : List ℕ) → (Contains (cla
 place_of-unknown heads name unknown =
     position_from-none (is_named name) 0 heads
     (λ j head e. other (bytes_eq head.name name) (λ same.
-      let named : head.name ≡ name = (bytes_eq-Decides head.name name).0 same in
-      let slot : slice_get (class_names heads) j ≡ Some name = slice_get-map (λ (c : ClassHead). c.name) heads j ∙ ap (option_map (λ (c : ClassHead). c.name)) e ∙ ap Some named in
-      unknown (j, slice_get_within (class_names heads) j name slot, get_or_from_slice_get (class_names heads) j name name slot)))
+    let named : head.name ≡ name = (bytes_eq-Decides head.name name).0 same in
+    let slot : slice_get (class_names heads) j ≡ Some name = slice_get-map (λ (c : ClassHead). c.name) heads j ∙ ap (option_map (λ (c : ClassHead). c.name)) e ∙ ap Some named in
+    unknown (j, slice_get_within (class_names heads) j name slot, get_or_from_slice_get (class_names heads) j name name slot)))
   where
-  other : (b : Bool) → (b ≡ true → ⊥) → b ≡ false
-  other true h = absurd (h refl)
-  other false h = refl
+    other : (b : Bool) → (b ≡ true → ⊥) → b ≡ false
+    other true h = absurd (h refl)
+    other false h = refl
 
 no_entry : (heads : List ClassHead) (b : Bool) (index : ℕ) → slice_get (if b then [] else supertypes_of heads None) index ≡ None
 no_entry heads true index = refl
@@ -60,6 +60,6 @@ pub unknown_none : (heads : List ClassHead) (low : List ℕ) (index : ℕ) (r : 
 unknown_none heads low index None e unknown = refl
 unknown_none heads low index (Some name) e unknown =
     let none : slice_get (supertype_names heads low) index ≡ None =
-        ap (λ o. slice_get (if is_array low then [] else supertypes_of heads o) index) (place_of-unknown heads low unknown) ∙ no_entry heads (is_array low) index in
+    ap (λ o. slice_get (if is_array low then [] else supertypes_of heads o) index) (place_of-unknown heads low unknown) ∙ no_entry heads (is_array low) index in
     let both : Some name.now ≡ None = e ∙ none in
     absurd cc

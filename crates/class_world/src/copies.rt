@@ -104,10 +104,7 @@ fn copy_content(alloc: Global, content: &Content) -> Result<Content, AllocError>
     })
 }
 
-fn copy_attributes(
-    alloc: Global,
-    attributes: &[Attribute],
-) -> Result<Items<Attribute>, AllocError>
+fn copy_attributes(alloc: Global, attributes: &[Attribute]) -> Result<Items<Attribute>, AllocError>
     ensures { IfOk result (λ copies. copies ≡ attributes.now) }
 {
     let mut copies = Items::new(alloc);

@@ -91,11 +91,7 @@ pub(crate) fn has_wrong_super(names: &Names, heads: &[ClassHead], head: &ClassHe
     }
 }
 
-fn push_place(
-    places: &mut Vec<u32>,
-    names: &Names,
-    name: &InternalName,
-) -> Result<(), AllocError>
+fn push_place(places: &mut Vec<u32>, names: &Names, name: &InternalName) -> Result<(), AllocError>
     ensures { OnOk result (places.new.items ≡ places.old.items ++ option_to_list (indexed names.now name.now)) }
 {
     if let Some(place) = place_named(names, name) {

@@ -94,9 +94,10 @@ impl World {
             Err(WorldFault::Circle(_)) => unreachable!(),
             Err(_) => return Err(AllocError),
         };
-        let (Ok(first_fields), Ok(first_methods)) =
-            (first_fields(alloc, &heads), first_methods(alloc, &heads))
-        else {
+        let (Ok(first_fields), Ok(first_methods)) = (
+            first_fields(alloc, &heads),
+            first_methods(alloc, &heads),
+        ) else {
             return Err(AllocError);
         };
         let names = in_order(alloc, &index)?;

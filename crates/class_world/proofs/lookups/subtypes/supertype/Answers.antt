@@ -23,7 +23,7 @@ entry c =
     let within = place_of-within c.args.heads.now c.args.low.now c.in_ok-class.class (sym c.place_of.ensures ∙ c.in_ok-class.was) in
     ap (option_map (name_at c.args.heads.now)) c.get.ensures.value
     ∙ supertype_entry c.args.heads.now c.args.low.now c.in_ok-class.class c.args.index c.index-supers-class.result (sym c.is_array.ensures ∙ c.if-is_array.false) (sym c.place_of.ensures ∙ c.in_ok-class.was)
-      (read c ∙ c.requires.supers.each c.in_ok-class.class within)
+    (read c ∙ c.requires.supers.each c.in_ok-class.class within)
 
 pub bounds-supers-class : goal.bounds-supers-class
 bounds-supers-class c =
