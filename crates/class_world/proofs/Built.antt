@@ -1,5 +1,5 @@
 -- What the steps of a building say of the given classes.
-use Rattle.std.specs.Prelude.{◌≡◌, ℕ, ◌+◌, ◌≤◌, ◌<◌, ◌==◌, Bool, true, false, not, List, ◌++◌, length, map, refl, Option, Some, None, Result, Err, IfErr}
+use Rattle.std.specs.Prelude.{◌≡◌, ℕ, ◌+◌, ◌≤◌, ◌<◌, ◌==◌, Bool, false, List, ◌++◌, length, map, refl, Option, Some, None, Result, Err, IfErr}
 use Rattle.std.proofs.Common.{sym, ◌∙◌, ap, subst, inl, inr, ◌⊎◌, arith, length-append}
 use Rattle.std.proofs.lemmas.List.{length-map}
 use Rattle.std.proofs.lemmas.Bool.{false_from_ne_true, not-false, eqb-true, true≢false}
@@ -9,8 +9,8 @@ use Rattle.class_heads.specs.declared.fault.WorldFault.{WorldFault}
 use Rattle.class_heads.specs.declared.fault.WorldFault.TheVariants.{Duplicate, Reserved, MissingSuper, FinalSuper, Circle, Memory}
 use Rattle.class_heads.specs.Heads.{head_of}
 use Rattle.class_heads.specs.Hierarchy.{place_of, name_at}
-use Rattle.class_heads.specs.Faults.{world_heads, IsDuplicate, TakesReserved, LacksSuper, HasWrongSuper, IsOnCircle, Never, IsLeast, IsLacking, IsLibrary, IsFirstFault, IsSound}
-use Rattle.class_world.specs.First.{IsBefore, IsFirst, is_other, is_later}
+use Rattle.class_heads.specs.Faults.{world_heads, IsDuplicate, TakesReserved, HasWrongSuper, IsOnCircle, IsLeast, IsLacking, IsLibrary, IsFirstFault, IsSound}
+use Rattle.class_world.specs.First.{is_other, is_later}
 use Rattle.class_world.specs.Order.{AreOrderly, IsDisorder, IsRing, AreTabled, Later}
 use Rattle.class_world.proofs.Given.{later_least, later_never, reserved_least, reserved_never, lacking_least, lacking_never, wrong_least, wrong_never}
 use Rattle.class_world.proofs.Rings.{circle_least, circle_never}

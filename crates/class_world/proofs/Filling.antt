@@ -1,15 +1,15 @@
 -- How the tables fill.
-use Rattle.std.specs.Prelude.{◌≡◌, ℕ, zero, suc, ◌+◌, ◌-◌, ◌≤◌, ◌<◌, ◌==◌, ◌||◌, ◌&&◌, Bool, true, false, not, List, [], ◌∷◌, ◌++◌, length, take, replicate, cond, refl, IsTrue, ◌↔◌}
-use Rattle.std.proofs.Common.{sym, ◌∙◌, ap, subst, inl, inr, ⊎_elim, arith, rules, get_or, set, drop, get_or-set_same, get_or-set_other, length-set, length-append}
+use Rattle.std.specs.Prelude.{◌≡◌, ℕ, zero, suc, ◌+◌, ◌-◌, ◌≤◌, ◌<◌, ◌==◌, ◌||◌, Bool, true, false, not, List, [], ◌∷◌, ◌++◌, length, take, replicate, cond, refl, IsTrue, ◌↔◌}
+use Rattle.std.proofs.Common.{sym, ◌∙◌, ap, subst, inl, inr, arith, get_or, set, drop, get_or-set_same, get_or-set_other, length-set, length-append}
 use Rattle.std.specs.List.{All, list_any, list_all, fold, flat_map}
 use Rattle.std.proofs.lemmas.List.Sums.{fold-append}
 use Rattle.std.proofs.lemmas.List.Concat.{flat_map-append}
-use Rattle.std.proofs.lemmas.List.Folds.{list_any-append, list_all_at, list_any_at}
+use Rattle.std.proofs.lemmas.List.Folds.{list_any-append}
 use Rattle.std.proofs.lemmas.List.Elements.{All-head, All-tail, All-push, All-cons, All-nil, All-append, All-replicate, All-set, All-get_or, All-weaker}
-use Rattle.std.proofs.lemmas.List.{get_or_past, get_or-replicate, length-replicate, take_more, drop_all, append-nil, get_or_read, drop_more, append_assoc, length_push}
-use Rattle.std.proofs.lemmas.Bool.{eqb-true, eq-eqb, ne_eqb, cases_eq, cases_lt, cases_Bool, both_ways, and_parts, and_cases, or_cases, or_right, or_left, false≢true, true≢false}
+use Rattle.std.proofs.lemmas.List.{get_or_past, get_or-replicate, length-replicate, take_more, drop_all, append-nil, drop_more, append_assoc, length_push}
+use Rattle.std.proofs.lemmas.Bool.{eqb-true, cases_eq, cases_lt, cases_Bool, both_ways, and_parts, and_cases, or_cases, or_right, or_left, false≢true, true≢false}
 use Rattle.class_world.specs.Places.{table_at, AreWithin, stands_in, with_new, each_once, order, IsBelow, is_filled, is_list, joined, HasTables, IsTable, IsFilled, IsLeft, AreAll, AreUnready, IsTables, IsStuck, IsRound}
-use Rattle.class_world.proofs.Once.{flat_map-once, flat_map-same, stands_fold}
+use Rattle.class_world.proofs.Once.{flat_map-once, flat_map-same}
 
 -- ---- more steps
 

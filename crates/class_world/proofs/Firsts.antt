@@ -1,5 +1,5 @@
 -- The first class, in the order of names, among more and more places.
-use Rattle.std.specs.Prelude.{◌≡◌, ℕ, suc, ◌+◌, ◌<◌, ◌≤◌, ◌==◌, ◌||◌, length, take, Bool, true, false, List, [], ◌∷◌, cond, refl, not, ◌&&◌, is_some, is_none, Option, Some, None}
+use Rattle.std.specs.Prelude.{◌≡◌, ℕ, ◌+◌, ◌<◌, ◌≤◌, ◌==◌, ◌||◌, length, take, Bool, true, false, List, [], ◌∷◌, cond, refl, not, ◌&&◌, is_some, is_none, Option, Some, None}
 use Rattle.std.specs.BTreeMap.{BTreeMap}
 use Rattle.std.specs.List.{find}
 use Rattle.std.specs.Option.{option_map}

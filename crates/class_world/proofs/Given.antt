@@ -1,18 +1,18 @@
 -- From what holds at places to what holds of the given classes.
-use Rattle.std.specs.Prelude.{◌≡◌, ℕ, zero, suc, ◌+◌, ◌-◌, ◌≤◌, ◌<◌, ◌==◌, ◌&&◌, Bool, true, false, not, List, [], ◌∷◌, ◌++◌, length, map, cond, refl, Option, Some, None, is_some, nat_lt, slice_get}
-use Rattle.std.proofs.Common.{sym, ◌∙◌, ap, subst, inl, inr, arith, get_or}
+use Rattle.std.specs.Prelude.{◌≡◌, ℕ, ◌+◌, ◌-◌, ◌≤◌, ◌<◌, ◌==◌, ◌&&◌, Bool, true, not, List, [], length, map, Some, None, is_some, slice_get}
+use Rattle.std.proofs.Common.{sym, ◌∙◌, ap, subst, inl, inr, arith}
 use Rattle.std.specs.List.{Contains, count_by}
 use Rattle.std.specs.Option.{option_map, unwrap_or}
 use Rattle.std.specs.Str.{bytes_eq}
-use Rattle.std.proofs.lemmas.List.{length-map, length-append}
-use Rattle.std.proofs.lemmas.Bool.{cases_lt, cases_Bool, false≢true, true≢false, both_ways, ltb-true, lt-ltb, eq-eqb, ne_eqb}
+use Rattle.std.proofs.lemmas.List.{length-map}
+use Rattle.std.proofs.lemmas.Bool.{cases_lt, both_ways, ltb-true, lt-ltb, eq-eqb, ne_eqb}
 use Rattle.std.proofs.lemmas.Option.{slice_get-get_or, slice_get-map, slice_get_within, get_or_from_slice_get}
 use Rattle.class_file.specs.declared.types.ClassFile.{ClassFile}
 use Rattle.class_heads.specs.declared.types.ClassHead.{ClassHead}
 use Rattle.class_heads.specs.Heads.{head_of}
 use Rattle.class_heads.specs.Reserved.{is_reserved}
 use Rattle.class_heads.specs.Hierarchy.{is_named, place_of, name_at}
-use Rattle.class_heads.specs.Faults.{IsAtMost, is_class_that, has_twin, missing_super, has_wrong_super, world_heads, IsDuplicate, TakesReserved, LacksSuper, HasWrongSuper, IsOnCircle, Never, IsLeast, IsLacking, IsLibrary}
+use Rattle.class_heads.specs.Faults.{IsAtMost, is_class_that, has_twin, missing_super, has_wrong_super, world_heads, IsDuplicate, TakesReserved, LacksSuper, HasWrongSuper, Never, IsLeast, IsLacking, IsLibrary}
 use Rattle.class_world.specs.First.{IsBefore, IsFirst, IsFirstPlace, is_other, is_later, is_file_that, takes_reserved_at, lacks_super_at, has_wrong_super_at}
 use Rattle.class_world.proofs.Named.{same_bytes, own_bytes}
 use Rattle.class_world.proofs.Twins.{two_count, counted_two, position_passes, passes_position, get_front, get_behind, get_within}

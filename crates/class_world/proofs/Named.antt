@@ -1,18 +1,18 @@
 -- Classes by their names.
-use Rattle.std.specs.Prelude.{◌≡◌, ℕ, zero, suc, ◌+◌, ◌-◌, ◌==◌, ◌&&◌, ◌≤◌, ◌<◌, Bool, true, false, List, [], ◌∷◌, ◌++◌, length, take, drop, ◌^◌, map, cond, refl, slice_get, Option, Some, None, is_none}
+use Rattle.std.specs.Prelude.{◌≡◌, ℕ, zero, suc, ◌+◌, ◌==◌, ◌<◌, Bool, true, false, List, [], ◌∷◌, ◌++◌, length, take, drop, ◌^◌, map, cond, refl, slice_get, Option, Some, None, is_none}
 use Rattle.std.proofs.Common.{sym, ◌∙◌, ap, subst, inl, inr, arith, get_or}
 use Rattle.std.specs.List.{All, find, filter_map, position_from, cons_option, sum}
-use Rattle.std.specs.Option.{option_or, option_and_then, option_to_list, option_map, unwrap_or}
+use Rattle.std.specs.Option.{option_or, option_to_list, option_map, unwrap_or}
 use Rattle.std.specs.Ordering.{nat_cmp, is_eq}
 use Rattle.std.specs.Cmp.Lexicographic.{slice_cmp}
 use Rattle.std.specs.BTreeMap.{BTreeMap}
 use Rattle.std.specs.Str.{bytes_eq}
-use Rattle.std.proofs.lemmas.List.{take_more, take_all, append-nil, append_assoc, take-append-drop, drop_more, length_push, get_or_push, get_or_append_left, get_or_past, get_or_default, length-take-le, length-map}
+use Rattle.std.proofs.lemmas.List.{take_more, take_all, append-nil, append_assoc, take-append-drop, drop_more, length_push, get_or_push, get_or_append_left, get_or_default, length-take-le, length-map}
 use Rattle.std.proofs.lemmas.List.Elements.{All-nil, All-cons, filter_map-append}
 use Rattle.std.proofs.lemmas.List.Folds.{find-append}
 use Rattle.std.proofs.lemmas.Grind.{common_steps}
-use Rattle.std.proofs.lemmas.Bool.{cases_Bool, cases_lt, false≢true, both_ways, and_parts, and_from, eqb-true, eq-eqb}
-use Rattle.std.proofs.lemmas.Option.{slice_get-get_or, slice_get-map, unwrap_or-slice_get}
+use Rattle.std.proofs.lemmas.Bool.{cases_lt, false≢true, both_ways, and_parts, and_from, eqb-true, eq-eqb}
+use Rattle.std.proofs.lemmas.Option.{slice_get-map, unwrap_or-slice_get}
 use Rattle.std.proofs.lemmas.Map.Text.{is_eq-slice_cmp}
 use Rattle.class_heads.specs.declared.types.ClassHead.{ClassHead}
 use Rattle.class_heads.specs.Hierarchy.{is_named, place_of, class_named, super_names, supers_at}

@@ -1,12 +1,12 @@
 -- Lists of places with each once.
-use Rattle.std.specs.Prelude.{◌≡◌, ℕ, zero, suc, ◌+◌, ◌<◌, ◌==◌, ◌||◌, Bool, true, false, List, [], ◌∷◌, ◌++◌, length, cond, refl}
-use Rattle.std.proofs.Common.{sym, ◌∙◌, ap, subst, inl, inr, arith, rules, length-set, get_or, set, drop, get_or-set_same, get_or-set_other}
-use Rattle.std.specs.List.{All, list_any, fold, flat_map}
+use Rattle.std.specs.Prelude.{◌≡◌, ℕ, ◌<◌, ◌==◌, ◌||◌, Bool, true, false, List, [], ◌∷◌, ◌++◌, length, refl}
+use Rattle.std.proofs.Common.{sym, ◌∙◌, ap, subst, inl, inr, length-set, get_or, set, get_or-set_same, get_or-set_other}
+use Rattle.std.specs.List.{All, fold, flat_map}
 use Rattle.std.proofs.lemmas.List.Sums.{fold-append}
 use Rattle.std.proofs.lemmas.List.Folds.{list_any-append}
 use Rattle.std.proofs.lemmas.List.Elements.{All-head, All-tail, All-push}
-use Rattle.std.proofs.lemmas.Bool.{eqb-true, eq-eqb, ne_eqb, cases_eq, cases_Bool, both_ways}
-use Rattle.class_world.specs.Places.{table_at, AreWithin, stands_in, with_new, each_once, IsMarked, IsClear}
+use Rattle.std.proofs.lemmas.Bool.{eqb-true, eq-eqb, ne_eqb, cases_eq, cases_Bool}
+use Rattle.class_world.specs.Places.{stands_in, with_new, each_once, IsMarked}
 
 pub stands_push : (places : List ℕ) (p q : ℕ) → stands_in (places ++ p ∷ []) q ≡ (stands_in places q || (p == q))
 stands_push places p q = list_any-append (λ other. other == q) places (p ∷ []) ∙ ap (λ b. stands_in places q || b) (or_false (p == q)) where

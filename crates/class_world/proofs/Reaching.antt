@@ -1,13 +1,13 @@
 -- How the places above a place are reached.
-use Rattle.std.specs.Prelude.{◌≡◌, ℕ, zero, suc, ◌+◌, ◌-◌, ◌≤◌, ◌<◌, ◌==◌, ◌||◌, Bool, true, false, not, List, [], ◌∷◌, ◌++◌, length, cond, refl}
-use Rattle.std.proofs.Common.{sym, ◌∙◌, ap, subst, inl, inr, arith, rules, get_or, set, drop, get_or-set_same, get_or-set_other, length-set, length-append}
-use Rattle.std.specs.List.{All, Contains, list_any, fold, count_by}
-use Rattle.std.proofs.lemmas.List.Elements.{All-head, All-tail, All-push, All-cons, All-nil, All-get_or, All-weaker, All-contains}
+use Rattle.std.specs.Prelude.{◌≡◌, ℕ, zero, suc, ◌+◌, ◌≤◌, ◌<◌, ◌==◌, Bool, true, false, List, [], ◌∷◌, ◌++◌, length, cond, refl}
+use Rattle.std.proofs.Common.{sym, ◌∙◌, ap, subst, inl, inr, arith, get_or, length-append}
+use Rattle.std.specs.List.{All, Contains, list_any, fold}
+use Rattle.std.proofs.lemmas.List.Elements.{All-head, All-tail, All-push, All-nil, All-weaker, All-contains}
 use Rattle.std.proofs.lemmas.List.{get_or_past, get_or_append_left}
 use Rattle.std.proofs.lemmas.Bool.{eqb-true, eq-eqb, cases_eq, cases_lt, cases_Bool, both_ways, or_cases, or_right, or_left, false≢true}
 use Rattle.class_heads.specs.Graph.{PathOf, LiesOnCircle}
-use Rattle.class_world.specs.Places.{table_at, AreWithin, stands_in, with_new, IsBelow, HasTables, IsMarked, IsClear, IsStuck}
-use Rattle.class_world.specs.Above.{IsUp, IsAbove, IsJudged, IsReaching, unmarked}
+use Rattle.class_world.specs.Places.{table_at, stands_in, with_new, IsBelow, IsMarked, IsStuck}
+use Rattle.class_world.specs.Above.{IsUp, IsAbove, IsJudged, IsReaching}
 use Rattle.class_world.proofs.Once.{stands_fold}
 
 -- ---- what stands in a list

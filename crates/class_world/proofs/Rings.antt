@@ -1,9 +1,8 @@
 -- Circles, the walk up and the library's classes.
-use Rattle.std.specs.Prelude.{◌≡◌, ℕ, zero, suc, ◌+◌, ◌-◌, ◌≤◌, ◌<◌, ◌==◌, ◌&&◌, ◌||◌, Bool, true, false, not, List, [], ◌∷◌, ◌++◌, length, map, cond, refl, Option, Some, None, is_some, is_none, slice_get}
+use Rattle.std.specs.Prelude.{◌≡◌, ℕ, zero, suc, ◌+◌, ◌-◌, ◌<◌, ◌==◌, ◌&&◌, ◌||◌, Bool, true, false, not, List, [], ◌∷◌, ◌++◌, length, map, cond, refl, Option, Some, None, is_none, slice_get}
 use Rattle.std.proofs.Common.{sym, ◌∙◌, ap, subst, inl, inr, ◌⊎◌, arith, get_or}
 use Rattle.std.specs.List.{All, Contains, find, filter, filter_map, flat_map, fold, cons_option}
-use Rattle.std.specs.Option.{option_map, option_to_list}
-use Rattle.std.specs.Str.{bytes_eq}
+use Rattle.std.specs.Option.{option_to_list}
 use Rattle.std.proofs.lemmas.List.{length-map, append-nil, append_assoc}
 use Rattle.std.proofs.lemmas.List.Elements.{filter_agree}
 use Rattle.std.proofs.lemmas.Bool.{cases_lt, cases_Bool, false≢true, both_ways, eqb-true}
@@ -13,8 +12,8 @@ use Rattle.class_heads.specs.declared.types.ClassHead.{ClassHead}
 use Rattle.class_heads.specs.Heads.{head_of}
 use Rattle.class_heads.specs.Graph.{PathOf, LiesOnCircle, walk}
 use Rattle.class_heads.specs.Graph as graph
-use Rattle.class_heads.specs.Hierarchy.{is_named, place_of, name_at, super_names, supers_at, supertypes}
-use Rattle.class_heads.specs.Faults.{IsAtMost, direct_supers, missing_super, world_heads, IsOnCircle, IsOnCircleAt, Never, IsLeast, IsLibrary}
+use Rattle.class_heads.specs.Hierarchy.{is_named, place_of, name_at, super_names, supers_at}
+use Rattle.class_heads.specs.Faults.{IsAtMost, direct_supers, world_heads, IsOnCircle, IsOnCircleAt, Never, IsLeast, IsLibrary}
 use Rattle.class_world.specs.First.{IsBefore, IsFirstPlace}
 use Rattle.class_world.specs.Places.{table_at, stands_in, with_new, each_once, order, IsTables}
 use Rattle.class_world.specs.Tables.{AreSteps, IsSupers}

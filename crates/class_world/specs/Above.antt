@@ -1,5 +1,5 @@
 -- Which places lie above a place, and on a circle of steps.
-use Rattle.std.specs.Prelude.{◌≡◌, ℕ, zero, suc, ◌+◌, ◌-◌, ◌≤◌, ◌<◌, Bool, true, false, not, List, [], ◌∷◌, length, slice_index, slice_index_or, Option, Some, None}
+use Rattle.std.specs.Prelude.{◌≡◌, ℕ, suc, ◌≤◌, ◌<◌, Bool, true, false, not, List, length, slice_index, slice_index_or}
 use Rattle.std.specs.List.{All, count_by}
 use Rattle.class_heads.specs.Graph.{PathOf}
 use Rattle.class_world.specs.Places.{table_at, stands_in, IsMarked}

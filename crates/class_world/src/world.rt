@@ -38,12 +38,13 @@ impl Model for World {
     ghost invariant = { λ w. IsWorld w.heads.items w.files.items w.names.items w.supers.items w.first_fields.items w.first_methods.items };
 }
 
-// As many classes as places can be told apart by a number.
+// The most classes that there may be, so that a place fits a number of 32 bits.
 const MOST: usize = 4294967295;
 
 impl World {
     /// The world of the classes of these files and of a library's classes, or the first fault of the
-    /// classes (JVMS 2.6.7, 4.1). Reserved names are no fault of woven classes.
+    /// classes (JVMS 2.6.7, 4.1). Reserved names are no fault of woven classes. Want of memory answers
+    /// `Memory`, and so do 2^32 or more classes, fields or methods.
     pub fn build(
         alloc: Global,
         classes: Vec<ClassFile>,
@@ -76,8 +77,9 @@ impl World {
         })
     }
 
-    /// The world of these heads and of the same files, where a program's classes were extended. The
-    /// heads of the classes that were given as files come first, in their order.
+    /// The world of these heads and of equal files, where a program's classes were extended. The heads
+    /// of the classes that were given as files come first, in their order. It fails where memory is
+    /// wanting, and at 2^32 or more classes, fields or methods.
     pub fn with_heads(&self, heads: Vec<ClassHead>) -> Result<World, AllocError>
         requires given { length self.now.files ≤ length heads.items }
         requires whole { IsWhole heads.items }

@@ -1,4 +1,4 @@
-use Rattle.std.proofs.Common.{◌≡◌, ◌+◌, ◌-◌, length}
+use Rattle.std.proofs.Common.{◌+◌, ◌-◌, length}
 use Rattle.class_world.specs.Above.{IsReaching, unmarked}
 use Rattle.class_world.proofs.circles.mark_above.Given as goal
 

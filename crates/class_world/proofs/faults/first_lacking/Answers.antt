@@ -1,4 +1,4 @@
-use Rattle.std.proofs.Common.{sym, ◌∙◌, ap, arith, is_some}
+use Rattle.std.proofs.Common.{◌∙◌, ap, arith, is_some}
 use Rattle.class_world.specs.First.{lacks_super_at}
 use Rattle.class_world.proofs.Firsts.{counted_step, lacks_here, is_some_copied}
 use Rattle.class_world.proofs.faults.first_lacking.Goals as goal

@@ -1,5 +1,5 @@
-use Rattle.std.specs.Prelude.{◌<◌, ◌≡◌, List, ℕ, length}
-use Rattle.std.proofs.Common.{sym, ◌∙◌, refl, arith, get_or}
+use Rattle.std.specs.Prelude.{◌<◌, ◌≡◌, length}
+use Rattle.std.proofs.Common.{sym, ◌∙◌, refl, get_or}
 use Rattle.std.proofs.lemmas.List.{get_or_read}
 use Rattle.class_world.specs.Places.{table_at}
 use Rattle.class_world.proofs.Filling.{round_fill, round_wait}

@@ -1,7 +1,7 @@
 use Rattle.std.specs.Prelude.{◌<◌, ◌≡◌, length}
 use Rattle.std.proofs.Common.{sym, ◌∙◌, subst, arith, get_or}
 use Rattle.std.proofs.lemmas.List.{get_or_read}
-use Rattle.class_world.specs.Places.{AreWithin, table_at}
+use Rattle.class_world.specs.Places.{AreWithin}
 use Rattle.class_world.proofs.Filling.{table_within, join_more}
 use Rattle.class_world.proofs.tables.join.Goals as goal
 

@@ -1,5 +1,5 @@
-use Rattle.std.specs.Prelude.{◌<◌, ◌≡◌, [], length}
-use Rattle.std.proofs.Common.{sym, ◌∙◌, subst, arith}
+use Rattle.std.specs.Prelude.{◌≡◌, []}
+use Rattle.std.proofs.Common.{subst, arith}
 use Rattle.std.proofs.lemmas.List.{nil_from_length}
 use Rattle.class_world.specs.Places.{IsLeft}
 use Rattle.class_world.proofs.Filling.{stuck_left, none_left}

@@ -1,4 +1,4 @@
-use Rattle.std.proofs.Common.{◌≡◌, length, ℕ}
+use Rattle.std.proofs.Common.{◌≡◌, length}
 use Rattle.class_world.specs.Places.{IsLeft, AreWithin, IsClear}
 use Rattle.class_world.proofs.tables.tables_of.Given as goal
 

@@ -1,7 +1,6 @@
-use Rattle.std.specs.Prelude.{◌≡◌, ◌++◌, ◌<◌, ◌^◌, map, length, List}
+use Rattle.std.specs.Prelude.{◌≡◌, ◌++◌, map}
 use Rattle.std.proofs.Common.{◌∙◌, ap, subst, arith, ◌⊎◌}
 use Rattle.std.proofs.lemmas.Result.{err_from_is_err_and}
-use Rattle.class_heads.specs.declared.types.ClassHead.{ClassHead}
 use Rattle.class_heads.specs.declared.fault.WorldFault.TheVariants.{Memory}
 use Rattle.class_heads.specs.Heads.{head_of}
 use Rattle.class_heads.specs.Faults.{world_heads, IsFirstFault}

@@ -1,4 +1,4 @@
-use Rattle.std.specs.Prelude.{◌≡◌, ◌≤◌, ◌<◌, ◌^◌, length}
+use Rattle.std.specs.Prelude.{◌≡◌, ◌≤◌, length}
 use Rattle.std.proofs.Common.{◌∙◌, ap, subst, arith}
 use Rattle.class_heads.specs.declared.fault.WorldFault.TheVariants.{Circle}
 use Rattle.class_heads.specs.Numbers.{field_counts, method_counts}
