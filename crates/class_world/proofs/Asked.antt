@@ -1,17 +1,17 @@
 -- What is asked of a world, by its tables.
 use Rattle.std.specs.Prelude.{◌≡◌, ℕ, ◌+◌, ◌<◌, List, [], length, Option, Some, None}
-use Rattle.std.proofs.Common.{get_or, sym, ap, ◌∙◌, subst, arith}
+use Rattle.std.proofs.Common.{get_or, sym, ap, ◌∙◌, arith}
 use Rattle.std.specs.Option.{option_map}
 use Rattle.std.proofs.lemmas.List.{get_or_read}
 use Rattle.aj_names.specs.declared.types.MemberName.{MemberName}
 use Rattle.class_heads.specs.declared.types.ClassHead.{ClassHead}
 use Rattle.class_heads.specs.Hierarchy.{supertypes}
-use Rattle.class_heads.specs.Searches.{MemberPlace, first_found, field_in, find_field, find_method, select}
+use Rattle.class_heads.specs.Searches.{MemberPlace, find_field, find_method, select}
 use Rattle.class_heads.specs.Numbers.{number_of, IsNumbered, field_counts, method_counts}
 use Rattle.class_world.specs.declared.lookups.members.Found.{Found}
 use Rattle.class_world.specs.Found.{member_place}
 use Rattle.class_world.specs.Tables.{IsSupers, IsFirsts}
-use Rattle.class_world.proofs.Numbered.{HasNumber, has_number, field_by_table, find_field-stands, find_method-stands, select-stands}
+use Rattle.class_world.proofs.Numbered.{HasNumber, has_number, find_field-stands, find_method-stands, select-stands}
 
 -- the table that was read is the class's
 pub read_table : (heads : List ClassHead) (supers : List (List ℕ)) (class : ℕ) (table : List ℕ) → IsSupers heads supers → class < length heads → table ≡ get_or supers class table → table ≡ supertypes heads class

@@ -1,11 +1,11 @@
 -- Numbers of members, and the members that searches find.
-use Rattle.std.specs.Prelude.{◌≡◌, ℕ, zero, suc, ◌+◌, ◌-◌, ◌<◌, ◌≤◌, ◌^◌, Bool, true, false, if◌then◌else◌, List, [], ◌∷◌, ◌++◌, length, map, take, slice_get, Option, Some, None, option_and_then, cond, refl}
-use Rattle.std.proofs.Common.{get_or, sym, ap, ◌∙◌, subst, arith, inl, inr}
+use Rattle.std.specs.Prelude.{◌≡◌, ℕ, zero, suc, ◌+◌, ◌-◌, ◌<◌, ◌≤◌, ◌^◌, Bool, true, false, List, [], ◌∷◌, ◌++◌, length, map, slice_get, Option, Some, None, cond, refl}
+use Rattle.std.proofs.Common.{get_or, ap, ◌∙◌, subst, arith, inl, inr}
 use Rattle.std.specs.List.{sum}
 use Rattle.std.specs.Option.{option_map, option_or}
 use Rattle.std.proofs.lemmas.Bool.{cases_lt}
 use Rattle.std.proofs.lemmas.List.{take_all, length-map}
-use Rattle.std.proofs.lemmas.List.Sums.{sum_by_more, sum_by_more_le, sum_by-take-le}
+use Rattle.std.proofs.lemmas.List.Sums.{sum_by_more, sum_by_more_le}
 use Rattle.std.proofs.lemmas.Option.{option_and_then_some, cond_some, slice_get-map, slice_get_within, get_or_from_slice_get}
 use Rattle.aj_names.specs.declared.types.MemberName.{MemberName}
 use Rattle.class_heads.specs.declared.types.MethodHead.{MethodHead}

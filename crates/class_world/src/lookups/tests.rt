@@ -9,9 +9,13 @@ use std::process::Abort;
 use std::test::Fail;
 
 const CLASS: u16 = 0x0021;
+
 const INTERFACE: u16 = 0x0600;
+
 const PUBLIC: u16 = 0x0001;
+
 const PRIVATE: u16 = 0x0002;
+
 const STATIC: u16 = 0x0009;
 
 // A class of a test: its fields are ints, and its methods take and give nothing.
@@ -324,14 +328,7 @@ fn supertypes_stand_in_the_order_of_searches(rt: HostRuntime) -> Result<(), Fail
     let alloc = rt.alloc();
     let world = world(alloc).ok().expect(&rt, "the classes are sound");
     let class = InternalName::from_slice(alloc, b"p/A$B")?;
-    let wanted: [&[u8]; 6] = [
-        b"p/A$B",
-        b"J",
-        b"I",
-        b"java/lang/Object",
-        b"K",
-        b"p/A",
-    ];
+    let wanted: [&[u8]; 6] = [b"p/A$B", b"J", b"I", b"java/lang/Object", b"K", b"p/A"];
     for (i, name) in wanted.iter().enumerate() {
         let name = InternalName::from_slice(alloc, name)?;
         assert!(rt; world.supertype(&class, i as u32) == Some(&name));

@@ -1,9 +1,9 @@
-use Rattle.std.proofs.Common.{◌≡◌, ℕ, [], ◌<◌, length, arith, sym, ap, ◌∙◌, get_or, subst}
-use Rattle.std.specs.Prelude.{slice_get, Option, Some, None}
+use Rattle.std.proofs.Common.{◌≡◌, [], ◌<◌, length, arith, sym, ap, ◌∙◌, get_or, subst}
+use Rattle.std.specs.Prelude.{slice_get, Some}
 use Rattle.std.specs.Option.{option_map, option_copied}
 use Rattle.std.proofs.lemmas.List.{get_or_read}
 use Rattle.std.proofs.lemmas.Option.{slice_get-get_or}
-use Rattle.class_heads.specs.Hierarchy.{name_at, supertypes, supertype_names}
+use Rattle.class_heads.specs.Hierarchy.{name_at, supertype_names}
 use Rattle.class_world.proofs.Positions.{place_of-within, name_at-slot}
 use Rattle.class_world.proofs.Below.{supertype_entry, table_within}
 use Rattle.class_world.proofs.lookups.subtypes.supertype.Goals as goal

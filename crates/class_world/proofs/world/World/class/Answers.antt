@@ -1,7 +1,5 @@
-use Rattle.std.proofs.Common.{◌≡◌, ◌<◌, List, length, sym, ap, ◌∙◌, subst}
-use Rattle.std.specs.Prelude.{Some}
+use Rattle.std.proofs.Common.{◌<◌, List, length, sym, ap, ◌∙◌, subst}
 use Rattle.class_heads.specs.declared.types.ClassHead.{ClassHead}
-use Rattle.class_heads.specs.Hierarchy.{place_of}
 use Rattle.class_world.specs.Tables.{Known}
 use Rattle.class_world.proofs.Positions.{place_of-within}
 use Rattle.class_world.proofs.world.World.class.Goals as goal

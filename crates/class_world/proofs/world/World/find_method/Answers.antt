@@ -1,15 +1,12 @@
-use Rattle.std.proofs.Common.{◌≡◌, ℕ, ◌<◌, List, length, get_or, arith, sym, ap, ◌∙◌, subst}
-use Rattle.std.specs.Prelude.{Option, Some, None}
+use Rattle.std.proofs.Common.{◌≡◌, ℕ, List, arith, sym, ap, ◌∙◌, subst}
 use Rattle.std.specs.Option.{option_map}
 use Rattle.class_heads.specs.declared.types.ClassHead.{ClassHead}
-use Rattle.class_heads.specs.Hierarchy.{supertypes}
-use Rattle.class_heads.specs.Searches.{MemberPlace, first_found, field_in, find_field, find_method, select}
-use Rattle.class_heads.specs.Numbers.{number_of, IsNumbered, field_counts, method_counts}
-use Rattle.class_world.specs.Found.{member_place, StandsAt}
-use Rattle.class_world.specs.Tables.{Known, IsSupers, IsFirsts}
-use Rattle.aj_names.specs.declared.ids.MethodId.{MethodId}
-use Rattle.class_world.proofs.Numbered.{HasNumber, field_by_table}
-use Rattle.class_world.proofs.Asked.{read_table, numbered_none, numbered_some, method_number}
+use Rattle.class_heads.specs.Searches.{find_method}
+use Rattle.class_heads.specs.Numbers.{method_counts}
+use Rattle.class_world.specs.Found.{member_place}
+use Rattle.class_world.specs.Tables.{Known, IsFirsts}
+use Rattle.class_world.proofs.Numbered.{HasNumber}
+use Rattle.class_world.proofs.Asked.{numbered_some, method_number}
 use Rattle.class_world.proofs.world.World.find_method.Goals as goal
 use Rattle.class_world.proofs.world.World.find_method.Goals.{After-find_method, After-as_slice-3}
 

@@ -1,12 +1,10 @@
-use Rattle.std.proofs.Common.{◌≡◌, ℕ, ◌<◌, List, length, get_or, arith, sym, ap, ◌∙◌, subst}
-use Rattle.std.specs.Prelude.{Option, Some, None}
+use Rattle.std.proofs.Common.{◌≡◌, ℕ, List, arith, sym, ap, ◌∙◌, subst}
 use Rattle.std.specs.Option.{option_map}
 use Rattle.class_heads.specs.declared.types.ClassHead.{ClassHead}
-use Rattle.class_heads.specs.Hierarchy.{supertypes}
-use Rattle.class_heads.specs.Searches.{MemberPlace, first_found, field_in, find_field, find_method, select}
-use Rattle.class_heads.specs.Numbers.{number_of, IsNumbered, field_counts, method_counts}
-use Rattle.class_world.specs.Found.{member_place, StandsAt}
-use Rattle.class_world.specs.Tables.{Known, IsSupers, IsFirsts}
+use Rattle.class_heads.specs.Searches.{MemberPlace, select}
+use Rattle.class_heads.specs.Numbers.{IsNumbered, method_counts}
+use Rattle.class_world.specs.Found.{member_place}
+use Rattle.class_world.specs.Tables.{Known, IsFirsts}
 use Rattle.aj_names.specs.declared.ids.MethodId.{MethodId}
 use Rattle.class_world.proofs.Numbered.{HasNumber, numbered_from_standing, one_numbered}
 use Rattle.class_world.proofs.Asked.{numbered_none, numbered_some, selected_number}
