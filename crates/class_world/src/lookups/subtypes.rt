@@ -1,6 +1,6 @@
 //! Whether one type is a subtype of another.
 
-ghost use Rattle.std.specs.Prelude.{◌≡◌, ◌<◌, length, false, nat_eq, slice_get};
+ghost use Rattle.std.specs.Prelude.{◌≡◌, ◌<◌, false, nat_eq, slice_get};
 ghost use Rattle.std.specs.List.{list_any};
 ghost use Rattle.std.specs.Option.{option_copied};
 ghost use Rattle.class_heads.specs.Hierarchy as rule;
