@@ -1,3 +1,9 @@
 pub mod Heads
 pub mod Reserved
 pub mod Marked
+pub mod Graph
+pub mod Hierarchy
+pub mod Searches
+pub mod Numbers
+pub mod Faults
+pub mod Examples

@@ -7,9 +7,7 @@ ghost use Rattle.class_heads.specs.Heads as rule;
 
 use crate::types::{ClassHead, FieldHead, MethodHead};
 use aj_names::{ByteString, InternalName, MemberName};
-use class_file::{
-    AccessFlags, Attribute, ClassFile, Content, Member, PoolEntry, class_at, text_at,
-};
+use class_file::{Attribute, ClassFile, Content, Member, PoolEntry, class_at, text_at};
 use sqlite_items::Items;
 use std::alloc::{AllocError, Global};
 
@@ -68,15 +66,18 @@ fn is_constant(attribute: &Attribute) -> bool
     matches!(attribute.content, Content::ConstantValue(_))
 }
 
+fn has_synthetic(attributes: &[Attribute]) -> bool
+    ensures { result ≡ list_any (λ a. rule.is_synthetic a.content) attributes.now }
+{
+    attributes
+        .iter()
+        .any(|attribute| is_synthetic_attribute(attribute))
+}
+
 fn is_synthetic(member: &Member) -> bool
     ensures { result ≡ rule.member_is_synthetic member.now }
 {
-    member.flags.0 & 0x1000 == 0x1000
-        || member
-            .attributes
-            .as_slice()
-            .iter()
-            .any(|attribute| is_synthetic_attribute(attribute))
+    member.flags.0 & 0x1000 == 0x1000 || has_synthetic(member.attributes.as_slice())
 }
 
 fn has_constant(member: &Member) -> bool

@@ -3,10 +3,12 @@
 //! Java Virtual Machine Specification, second edition, 2.6.7, 2.8, 4.1, 5.4.3).
 #![tactic(auto)]
 
+mod fault;
 mod heads;
 mod reserved;
 mod types;
 
+pub use fault::WorldFault;
 pub use heads::head_of;
 pub use reserved::is_reserved;
 pub use types::{ClassHead, FieldHead, MethodHead};

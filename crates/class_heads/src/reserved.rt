@@ -1,13 +1,13 @@
 //! Whether a class takes names that are kept for what is woven.
 
-ghost use Rattle.std.specs.Prelude.{◌≡◌, List, IfOk};
+ghost use Rattle.std.specs.Prelude.{◌≡◌, map, IfOk};
 ghost use Rattle.std.specs.List.{list_any};
-ghost use Rattle.std.specs.Option.{unwrap_or};
-ghost use Rattle.class_file.specs.declared.pool.PoolEntry.{PoolEntry};
+ghost use Rattle.std.specs.Option.{option_copied};
 ghost use Rattle.class_heads.specs.Reserved as rule;
-ghost use Rattle.class_heads.specs.Marked.{Judges, entry_mark, mark_at};
+ghost use Rattle.class_heads.specs.Marked as by;
 
 use class_file::{ClassFile, Member, PoolEntry};
+use sqlite_items::{Items, at};
 use std::alloc::{AllocError, Global};
 
 // Whether `ajc$` stands in the text.
@@ -23,7 +23,7 @@ fn has_mark(text: &[u8]) -> bool
 }
 
 fn entry_mark(entry: &PoolEntry) -> bool
-    ensures { result ≡ entry_mark entry.now }
+    ensures { result ≡ by.entry_mark entry.now }
 {
     match entry {
         PoolEntry::Utf8(text) => has_mark(text.as_slice()),
@@ -33,62 +33,72 @@ fn entry_mark(entry: &PoolEntry) -> bool
 
 // Which entries of a pool are texts with `ajc$` in them. Each text is looked through once, however
 // many entries name it.
-#[derive(Debug, Drop)]
-struct Marks {
-    marks: Vec<bool>,
+fn marks_of(alloc: Global, pool: &[PoolEntry]) -> Result<Items<bool>, AllocError>
+    ensures { IfOk result (λ marks. marks ≡ map by.entry_mark pool.now) }
+{
+    let mut marks = Items::new(alloc);
+    for entry in pool {
+        marks.push(entry_mark(entry))?;
+    }
+    Ok(marks)
 }
 
-impl Marks {
-    fn judge(alloc: Global, pool: &[PoolEntry]) -> Result<Marks, AllocError>
-        ensures { IfOk result (λ marks. Judges marks pool.now) }
-    {
-        let mut marks = Vec::with_capacity(alloc, pool.len())?;
-        for entry in pool {
-            marks.push(entry_mark(entry))?;
+// The mark of the entry of an index. Index 0 has none.
+fn mark_at(marks: &[bool], index: u16) -> Option<&bool>
+    ensures { option_copied result ≡ by.mark_at marks.now index }
+{
+    if index == 0 {
+        None
+    } else {
+        at(marks, usize::from(index) - 1)
+    }
+}
+
+fn is_marked(marks: &[bool], index: u16) -> bool
+    ensures { result ≡ by.is_marked marks.now index }
+{
+    match mark_at(marks, index) {
+        Some(mark) => *mark,
+        None => false,
+    }
+}
+
+fn entry_is_marked(marks: &[bool], entry: &PoolEntry) -> bool
+    ensures { result ≡ by.entry_is_marked marks.now entry.now }
+{
+    match entry {
+        PoolEntry::Class(name) => is_marked(marks, *name),
+        PoolEntry::NameAndType(name, descriptor) => {
+            is_marked(marks, *name) || is_marked(marks, *descriptor)
         }
-        Ok(Marks { marks })
+        _ => false,
     }
+}
 
-    // Whether the index is that of a text with `ajc$` in it.
-    fn at(&self, index: u16) -> bool
-        ensures { (pool : List PoolEntry) → Judges self.now pool → result ≡ rule.is_marked pool index }
-    {
-        if index == 0 {
-            return false;
-        }
-        match self.marks.get(usize::from(index) - 1) {
-            Some(mark) => *mark,
-            None => false,
-        }
-    }
+fn any_entry(marks: &[bool], entries: &[PoolEntry]) -> bool
+    ensures { result ≡ list_any (by.entry_is_marked marks.now) entries.now }
+{
+    entries.iter().any(|entry| entry_is_marked(marks, entry))
+}
 
-    fn entry(&self, entry: &PoolEntry) -> bool
-        ensures { (pool : List PoolEntry) → Judges self.now pool → result ≡ rule.entry_is_marked pool entry.now }
-    {
-        match entry {
-            PoolEntry::Class(name) => self.at(*name),
-            PoolEntry::NameAndType(name, descriptor) => self.at(*name) || self.at(*descriptor),
-            _ => false,
-        }
-    }
+fn member_is_marked(marks: &[bool], member: &Member) -> bool
+    ensures { result ≡ by.member_is_marked marks.now member.now }
+{
+    is_marked(marks, member.name) || is_marked(marks, member.descriptor)
+}
 
-    fn member(&self, member: &Member) -> bool
-        ensures { (pool : List PoolEntry) → Judges self.now pool → result ≡ rule.member_is_marked pool member.now }
-    {
-        self.at(member.name) || self.at(member.descriptor)
-    }
+fn any_member(marks: &[bool], members: &[Member]) -> bool
+    ensures { result ≡ list_any (by.member_is_marked marks.now) members.now }
+{
+    members.iter().any(|member| member_is_marked(marks, member))
+}
 
-    fn any_entry(&self, entries: &[PoolEntry]) -> bool
-        ensures { (pool : List PoolEntry) → Judges self.now pool → result ≡ list_any (rule.entry_is_marked pool) entries.now }
-    {
-        entries.iter().any(|entry| self.entry(entry))
-    }
-
-    fn any_member(&self, members: &[Member]) -> bool
-        ensures { (pool : List PoolEntry) → Judges self.now pool → result ≡ list_any (rule.member_is_marked pool) members.now }
-    {
-        members.iter().any(|member| self.member(member))
-    }
+fn is_reserved_by(marks: &[bool], class: &ClassFile) -> bool
+    ensures { result ≡ by.is_reserved marks.now class.now }
+{
+    any_entry(marks, class.pool.as_slice())
+        || (any_member(marks, class.fields.as_slice())
+            || any_member(marks, class.methods.as_slice()))
 }
 
 /// Whether `ajc$`, which is kept for what is woven, stands in a name that the class declares or refers
@@ -99,13 +109,10 @@ impl Marks {
 /// # Errors
 ///
 /// Want of memory.
+#[tactic(auto, using(crate::proofs::Marking::reserved_by))]
 pub fn is_reserved(alloc: Global, class: &ClassFile) -> Result<bool, AllocError>
     ensures { IfOk result (λ answer. answer ≡ rule.is_reserved class.now) }
 {
-    let marks = Marks::judge(alloc, class.pool.as_slice())?;
-    Ok(
-        marks.any_entry(class.pool.as_slice())
-            || marks.any_member(class.fields.as_slice())
-            || marks.any_member(class.methods.as_slice()),
-    )
+    let marks = marks_of(alloc, class.pool.as_slice())?;
+    Ok(is_reserved_by(marks.as_slice(), class))
 }
