@@ -7,3 +7,8 @@ pub mod Searches
 pub mod Numbers
 pub mod Faults
 pub mod Examples
+pub mod OnceLaws
+pub mod WalkLaws
+pub mod PlaceLaws
+pub mod FaultLaws
+pub mod FirstLaws
