@@ -21,7 +21,7 @@ pub order_more_steps : (steps : List (List ℕ)) (fuel p : ℕ) → IsBelow step
 order_more_steps steps zero p h = absurd h
 order_more_steps steps (suc fuel) p h =
     ap (λ xs. p ∷ xs) (flat_map-same (order steps (suc fuel)) (order steps fuel) (table_at steps p)
-      (All-weaker (IsBelow steps fuel) (λ s. order steps (suc fuel) s ≡ order steps fuel s) (order_more_steps steps fuel) (table_at steps p) h))
+    (All-weaker (IsBelow steps fuel) (λ s. order steps (suc fuel) s ≡ order steps fuel s) (order_more_steps steps fuel) (table_at steps p) h))
 
 pub table_more_steps : (steps : List (List ℕ)) (fuel p : ℕ) (table : List ℕ) → IsTable steps fuel p table → IsTable steps (suc fuel) p table
 table_more_steps steps fuel p table h = record {
@@ -41,8 +41,8 @@ joined_is steps tables fuel p f ready =
     record {
       below = All-weaker (λ s. is_filled tables s ≡ true) (IsBelow steps fuel) (λ s h. (f.filled s h).below) (table_at steps p) all;
       is = ap (λ xs. fold with_new (p ∷ []) xs) (flat_map-same (table_at tables) (λ s. each_once (order steps fuel s)) (table_at steps p)
-             (All-weaker (λ s. is_filled tables s ≡ true) (λ s. table_at tables s ≡ each_once (order steps fuel s)) (λ s h. (f.filled s h).is) (table_at steps p) all))
-           ∙ flat_map-once (order steps fuel) (table_at steps p) (p ∷ []);
+          (All-weaker (λ s. is_filled tables s ≡ true) (λ s. table_at tables s ≡ each_once (order steps fuel s)) (λ s h. (f.filled s h).is) (table_at steps p) all))
+          ∙ flat_map-once (order steps fuel) (table_at steps p) (p ∷ []);
     }
 
 -- a list to which places are added isn't empty
@@ -62,9 +62,9 @@ within_fold : (n : ℕ) (xs acc : List ℕ) → AreWithin n acc → AreWithin n 
 within_fold n [] acc a b = a
 within_fold n (x ∷ xs) acc a b =
     within_fold n xs (with_new acc x) (more (stands_in acc x)) (All-tail (λ q. q < n) x xs b) where
-  more : (t : Bool) → AreWithin n (cond t acc (acc ++ x ∷ []))
-  more true = a
-  more false = All-push (λ q. q < n) acc x a (All-head (λ q. q < n) x xs b)
+      more : (t : Bool) → AreWithin n (cond t acc (acc ++ x ∷ []))
+      more true = a
+      more false = All-push (λ q. q < n) acc x a (All-head (λ q. q < n) x xs b)
 
 within_flat : (n : ℕ) (g : ℕ → List ℕ) (ss : List ℕ) → ((s : ℕ) → AreWithin n (g s)) → AreWithin n (flat_map g ss)
 within_flat n g [] h = All-nil (λ q. q < n)
@@ -79,7 +79,7 @@ table_within n tables h s = elim (cases_lt s (length tables)) [
 pub joined_within : (n : ℕ) (tables : List (List ℕ)) (p : ℕ) (ss : List ℕ) → HasTables n tables → p < n → AreWithin n (joined tables p ss)
 joined_within n tables p ss h lt =
     within_fold n (flat_map (table_at tables) ss) (p ∷ []) (All-cons (λ q. q < n) p [] lt (All-nil (λ q. q < n)))
-      (within_flat n (table_at tables) ss (table_within n tables h))
+    (within_flat n (table_at tables) ss (table_within n tables h))
 
 -- ---- one place less is left
 
@@ -89,9 +89,9 @@ stands_less a b p q h apart =
     list_any-append (λ other. other == q) a b ∙ elim (or_cases (stands_in a q) ((p == q) || stands_in b q) t) [
       | inl here ↦ or_left (stands_in a q) (stands_in b q) here
       | inr behind ↦ elim (or_cases (p == q) (stands_in b q) behind) [
-          | inl e ↦ absurd (apart (sym (eqb-true p q e)))
-          | inr there ↦ or_right (stands_in a q) (stands_in b q) there
-        ]
+        | inl e ↦ absurd (apart (sym (eqb-true p q e)))
+        | inr there ↦ or_right (stands_in a q) (stands_in b q) there
+      ]
     ]
 
 pub one_less : (steps tables : List (List ℕ)) (a b : List ℕ) (p : ℕ) → IsLeft steps tables (a ++ p ∷ b) → p < length steps → list_all (is_filled tables) (table_at steps p) ≡ true
@@ -171,7 +171,7 @@ stuck_left steps tables places known l within some unready = record {
   some = some;
   within = within;
   up = All-weaker (λ p. list_all (is_filled tables) (table_at steps p) ≡ false) (λ p. list_any (stands_in places) (table_at steps p) ≡ true)
-         (λ p e. step_to (length steps) (is_filled tables) (stands_in places) (table_at steps p) (table_within (length steps) steps known p) l.rest e) places unready;
+      (λ p e. step_to (length steps) (is_filled tables) (stands_in places) (table_at steps p) (table_within (length steps) steps known p) l.rest e) places unready;
   rest = λ q lt out. elim (cases_Bool (is_filled tables q)) [
     | inl is ↦ (_, (l.filled.filled q is).below)
     | inr empty ↦ absurd (both_ways (stands_in places q) out (l.rest q lt empty))
@@ -228,7 +228,7 @@ round_wait steps tables all waiting at place row r lt is within row_is unready =
       places = All-push (λ q. q < length steps) waiting place r.places within;
       fewer = omega (arith, length_push waiting place);
       stuck = λ e. All-push (λ p. list_all (is_filled tables) (table_at steps p) ≡ false) waiting place (r.stuck (omega (arith, length_push waiting place)))
-                (subst (λ z. list_all (is_filled tables) z ≡ false) row_is unready);
+          (subst (λ z. list_all (is_filled tables) z ≡ false) row_is unready);
     }
 
 pub round_end : (steps tables : List (List ℕ)) (all waiting : List ℕ) (at : ℕ) → IsRound steps tables all waiting at → length all ≤ at → IsLeft steps tables waiting

@@ -87,7 +87,7 @@ marked_push seen places p m lt unmarked =
       marked = λ q below. elim (cases_eq q p) [
         | inl e ↦ let at : p < length seen = lt in
             subst (λ x. get_or (set seen p true) x false ≡ stands_in (places ++ p ∷ []) x) (sym e)
-              (get_or-set_same seen p true false at ∙ sym (stands_push places p p ∙ ap (λ b. stands_in places p || b) (eq-eqb p p refl) ∙ or_true (stands_in places p)))
+            (get_or-set_same seen p true false at ∙ sym (stands_push places p p ∙ ap (λ b. stands_in places p || b) (eq-eqb p p refl) ∙ or_true (stands_in places p)))
         | inr apart ↦ get_or-set_other seen p q true false apart ∙ m.marked q (rw (sym len) below) ∙ or_nothing (stands_in places q)
             ∙ sym (stands_push places p q ∙ ap (λ b. stands_in places q || b) (ne_eqb p q (λ e. apart (sym e))))
       ];

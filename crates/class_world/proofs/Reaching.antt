@@ -54,9 +54,9 @@ front_fold (x ∷ xs) acc k lt =
     let step = more (stands_in acc x) in
     let rest = front_fold xs (with_new acc x) k (omega (arith, step.1)) in
     (rest.0 ∙ step.0, omega (arith, step.1, rest.1)) where
-  more : (t : Bool) → (get_or (cond t acc (acc ++ x ∷ [])) k 0 ≡ get_or acc k 0) × (length acc ≤ length (cond t acc (acc ++ x ∷ [])))
-  more true = (refl, omega arith)
-  more false = (get_or_append_left acc (x ∷ []) 0 k lt, omega (arith, length-append acc (x ∷ [])))
+      more : (t : Bool) → (get_or (cond t acc (acc ++ x ∷ [])) k 0 ≡ get_or acc k 0) × (length acc ≤ length (cond t acc (acc ++ x ∷ [])))
+      more true = (refl, omega arith)
+      more false = (get_or_append_left acc (x ∷ []) 0 k lt, omega (arith, length-append acc (x ∷ [])))
 
 pub longer_fold : (xs acc : List ℕ) → length acc ≤ length (fold with_new acc xs)
 longer_fold [] acc = omega arith
@@ -75,7 +75,7 @@ pub up_then : (steps : List (List ℕ)) (p q r : ℕ) → IsUp steps p q → sta
 up_then steps p q r h s = (suc h.0, path_then steps (suc h.0) p q r h.1 (stands_contains (table_at steps q) r s))
 
 pub up_first : (steps : List (List ℕ)) (p r : ℕ) → stands_in (table_at steps p) r ≡ true → IsUp steps p r
-up_first steps p r s = (zero, r, stands_contains (table_at steps p) r s, refl)
+up_first steps p r s = (zero, (r, stands_contains (table_at steps p) r s, refl))
 
 -- ---- reaching
 
@@ -106,7 +106,7 @@ reaching_more steps p at seen seen' old new r lt marked is =
         | inl e ↦ subst (λ x. All (λ q. stands_in new q ≡ true) (table_at steps x)) (sym (ap (λ j. get_or new j 0) e ∙ front at lt)) (All-from_stands (λ q. stands_in new q ≡ true) row put)
         | inr apart ↦ let l : k < at = omega arith in let lo : k < length old = omega arith in
             subst (λ x. All (λ q. stands_in new q ≡ true) (table_at steps x)) (sym (front k lo))
-              (All-weaker (λ q. stands_in old q ≡ true) (λ q. stands_in new q ≡ true) kept (table_at steps (get_or old k 0)) (r.closed k l))
+            (All-weaker (λ q. stands_in old q ≡ true) (λ q. stands_in new q ≡ true) kept (table_at steps (get_or old k 0)) (r.closed k l))
       ];
       sound = subst (All (IsUp steps p)) (sym is) (All-fold (IsUp steps p) row old r.sound (All-from_stands (IsUp steps p) row (λ q s. up_then steps p (get_or old at 0) q up s)));
     }
@@ -123,9 +123,9 @@ reached_all steps p at seen reached r done len =
       len = len;
       first = λ next s. mark next (All-stands (λ q. stands_in reached q ≡ true) (table_at steps p) next r.first s);
       closed = λ high next h s.
-        let at_high = stands_at reached high (read high h) in
-        let below : at_high.0 < at = let l = at_high.1 in omega arith in
-        mark next (All-stands (λ q. stands_in reached q ≡ true) (table_at steps high) next (subst (λ x. All (λ q. stands_in reached q ≡ true) (table_at steps x)) at_high.2 (r.closed at_high.0 below)) s);
+          let at_high = stands_at reached high (read high h) in
+          let below : at_high.0 < at = let l = at_high.1 in omega arith in
+          mark next (All-stands (λ q. stands_in reached q ≡ true) (table_at steps high) next (subst (λ x. All (λ q. stands_in reached q ≡ true) (table_at steps x)) at_high.2 (r.closed at_high.0 below)) s);
       sound = λ high h. All-stands (IsUp steps p) reached high r.sound (read high h);
     }
 
@@ -156,18 +156,18 @@ no_more (false ∷ f) (true ∷ g) h = let i = no_more f g (λ q. h (suc q)) in 
 
 fewer : (f g : List Bool) (q : ℕ) → Within f g → get_or f q false ≡ false → get_or g q false ≡ true → ticks f < ticks g
 unfolding ticks Within
-fewer f [] q h no yes = absurd (false≢true yes)
-fewer [] (false ∷ g) zero h no yes = absurd (false≢true yes)
-fewer [] (true ∷ g) zero h no yes = let i = no_more [] g (λ q e. absurd (false≢true e)) in omega (arith, i)
-fewer [] (false ∷ g) (suc q) h no yes = fewer [] g q (λ q e. absurd (false≢true e)) refl yes
-fewer [] (true ∷ g) (suc q) h no yes = let i = fewer [] g q (λ q e. absurd (false≢true e)) refl yes in omega (arith, i)
-fewer (true ∷ f) (y ∷ g) zero h no yes = absurd (both_ways true no refl)
-fewer (false ∷ f) (false ∷ g) zero h no yes = absurd (false≢true yes)
-fewer (false ∷ f) (true ∷ g) zero h no yes = let i = no_more f g (λ q. h (suc q)) in omega (arith, i)
-fewer (true ∷ f) (false ∷ g) (suc q) h no yes = absurd (false≢true (h zero refl))
-fewer (true ∷ f) (true ∷ g) (suc q) h no yes = let i = fewer f g q (λ q. h (suc q)) no yes in omega (arith, i)
-fewer (false ∷ f) (false ∷ g) (suc q) h no yes = fewer f g q (λ q. h (suc q)) no yes
-fewer (false ∷ f) (true ∷ g) (suc q) h no yes = let i = fewer f g q (λ q. h (suc q)) no yes in omega (arith, i)
+fewer f [] q h off on = absurd (false≢true on)
+fewer [] (false ∷ g) zero h off on = absurd (false≢true on)
+fewer [] (true ∷ g) zero h off on = let i = no_more [] g (λ q e. absurd (false≢true e)) in omega (arith, i)
+fewer [] (false ∷ g) (suc q) h off on = fewer [] g q (λ q e. absurd (false≢true e)) refl on
+fewer [] (true ∷ g) (suc q) h off on = let i = fewer [] g q (λ q e. absurd (false≢true e)) refl on in omega (arith, i)
+fewer (true ∷ f) (y ∷ g) zero h off on = absurd (both_ways true off refl)
+fewer (false ∷ f) (false ∷ g) zero h off on = absurd (false≢true on)
+fewer (false ∷ f) (true ∷ g) zero h off on = let i = no_more f g (λ q. h (suc q)) in omega (arith, i)
+fewer (true ∷ f) (false ∷ g) (suc q) h off on = absurd (false≢true (h zero refl))
+fewer (true ∷ f) (true ∷ g) (suc q) h off on = let i = fewer f g q (λ q. h (suc q)) off on in omega (arith, i)
+fewer (false ∷ f) (false ∷ g) (suc q) h off on = fewer f g q (λ q. h (suc q)) off on
+fewer (false ∷ f) (true ∷ g) (suc q) h off on = let i = fewer f g q (λ q. h (suc q)) off on in omega (arith, i)
 
 some_step : (places xs : List ℕ) → list_any (stands_in places) xs ≡ true → (s : ℕ) × (stands_in xs s ≡ true) × (stands_in places s ≡ true)
 some_step places [] h = absurd (false≢true h)
@@ -176,11 +176,11 @@ some_step places (x ∷ xs) h = elim (or_cases (stands_in places x) (list_any (s
   | inr there ↦ let r = some_step places xs there in (r.0, or_right (x == r.0) (stands_in xs r.0) r.1, r.2)
 ]
 
-AllOff : List (List ℕ) → List ℕ → Type 0
+abbrev AllOff : List (List ℕ) → List ℕ → Type 0
 AllOff steps places = (p : ℕ) → stands_in places p ≡ true → IsJudged steps p false
 
 descend : (steps : List (List ℕ)) (places : List ℕ) → IsStuck steps places → (off : AllOff steps places) → (n p : ℕ) (s : stands_in places p ≡ true) → ticks (off p s).0 < n → ⊥
-unfolding AllOff Within
+unfolding Within
 descend steps places stuck off zero p s lt = omega arith
 descend steps places stuck off (suc n) p s lt =
     let up : list_any (stands_in places) (table_at steps p) ≡ true = All-stands (λ q. list_any (stands_in places) (table_at steps q) ≡ true) places p stuck.up s in
@@ -189,11 +189,10 @@ descend steps places stuck off (suc n) p s lt =
     let others = off next.0 next.2 in
     let marked : get_or mine.0 next.0 false ≡ true = mine.1.first next.0 next.1 in
     let less : ticks others.0 < ticks mine.0 = fewer others.0 mine.0 next.0
-          (λ q h. let u = others.1.sound q h in above_path steps p mine.0 mine.1 (suc u.0) next.0 q marked u.1) others.2 marked in
+    (λ q h. let u = others.1.sound q h in above_path steps p mine.0 mine.1 (suc u.0) next.0 q marked u.1) others.2 marked in
     descend steps places stuck off n next.0 next.2 (omega arith)
 
 pub never_all_off : (steps : List (List ℕ)) (places : List ℕ) → IsStuck steps places → ((p : ℕ) → stands_in places p ≡ true → IsJudged steps p false) → ⊥
-unfolding AllOff
 never_all_off steps places stuck off =
     let p = get_or places 0 0 in
     let s : stands_in places p ≡ true = at_stands places 0 0 stuck.some in
@@ -215,7 +214,7 @@ pub below_off : (steps : List (List ℕ)) (fuel k p : ℕ) → IsBelow steps fue
 below_off steps zero k p b path = b
 below_off steps (suc fuel) k p b path =
     below_off steps fuel k path.0 (All-contains (IsBelow steps fuel) (table_at steps p) path.0 b path.1)
-      (path_then steps k path.0 p path.0 path.2 path.1)
+    (path_then steps k path.0 p path.0 path.2 path.1)
 
 pub on_circle_stands : (steps : List (List ℕ)) (places : List ℕ) (p : ℕ) → IsStuck steps places → p < length steps → LiesOnCircle (table_at steps) p → stands_in places p ≡ true
 on_circle_stands steps places p stuck lt on = elim (cases_Bool (stands_in places p)) [

@@ -3,6 +3,13 @@
 //! 2.6.7, 2.8, 4.1, 5.4.3).
 #![tactic(auto)]
 
+mod building;
+mod circles;
+mod faults;
+mod lookups;
+mod names;
+mod numbers;
+mod supers;
 mod tables;
 #[cfg(test)]
 mod tests;

@@ -1,10 +1,11 @@
 //! Places in lists of steps: of each place the places one step up. The table of a place has the place
 //! and all above it, each once, in the order in which a walk up meets them.
 
-ghost use Rattle.std.specs.Prelude.{◌≡◌, ◌≤◌, ◌<◌, ◌^◌, [], ◌∷◌, length, replicate, IfOk, OnOk};
+ghost use Rattle.std.specs.Prelude.{◌≡◌, ◌+◌, ◌≤◌, ◌<◌, ◌^◌, [], ◌∷◌, length, replicate, IfOk, OnOk};
 ghost use Rattle.std.specs.List.{list_all, fold};
 ghost use Rattle.class_world.specs.Places.{with_new, AreWithin, AreAll, AreUnready, IsMarked, IsClear, is_filled, joined, HasTables, IsLeft};
 ghost use Rattle.class_world.specs.Filled.{TablesAre};
+ghost use Rattle.class_world.specs.Above.{unmarked};
 
 use sqlite_items::Items;
 use std::alloc::{AllocError, Global};
@@ -38,12 +39,17 @@ fn is_ready(tables: &[Items<u32>], places: &[u32]) -> bool
     true
 }
 
-// Appends those of the places that aren't in the table yet.
-fn append_new(table: &mut Vec<u32>, seen: &mut [bool], places: &[u32]) -> Result<(), AllocError>
+/// Appends those of the places that aren't in the table yet. The marks are those of its places.
+pub(crate) fn append_new(
+    table: &mut Vec<u32>,
+    seen: &mut [bool],
+    places: &[u32],
+) -> Result<(), AllocError>
     requires within { AreWithin (length seen.old) places.now }
     requires marked { IsMarked seen.old table.old.items }
     ensures items { OnOk result (table.new.items ≡ fold with_new table.old.items places.now) }
     ensures marked { OnOk result (IsMarked seen.new table.new.items) }
+    ensures kept { OnOk result (unmarked seen.new + length table.new.items ≡ unmarked seen.old + length table.old.items) }
     ensures len { length seen.new ≡ length seen.old }
 {
     for place in places {

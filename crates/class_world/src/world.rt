@@ -4,12 +4,14 @@ ghost use Rattle.std.specs.Prelude.{◌≡◌, IfOk, IfErr, OnOk, ◌⊎◌};
 ghost use Rattle.class_heads.specs.declared.fault.WorldFault.TheVariants.{Memory};
 ghost use Rattle.class_heads.specs.Faults.{world_heads, IsLibrary, IsSound, IsFirstFault};
 
-use aj_names::InternalName;
+use crate::building::{check, heads_of, supers_of};
+use crate::lookups::in_order;
+use crate::names::index_names;
+use crate::numbers::{first_fields, first_methods};
 use class_file::ClassFile;
 use class_heads::{ClassHead, WorldFault};
 use sqlite_items::Items;
 use std::alloc::Global;
-use std::collections::BTreeMap;
 use std::marker::Model;
 
 /// The classes that there are: those given as files, in their order, then others that are known by
@@ -18,7 +20,7 @@ use std::marker::Model;
 pub struct World {
     pub(crate) heads: Vec<ClassHead>,
     pub(crate) files: Vec<ClassFile>,
-    pub(crate) names: BTreeMap<InternalName, u32>,
+    pub(crate) names: Vec<u32>,
     pub(crate) supers: Vec<Items<u32>>,
     pub(crate) first_fields: Vec<u32>,
     pub(crate) first_methods: Vec<u32>,
@@ -31,8 +33,11 @@ impl Model for World {
 
     ghost view = { λ w. record { heads = w.heads.items; files = w.files.items } };
 
-    ghost invariant = { λ w. IsWorld w.heads.items w.files.items w.names w.supers.items w.first_fields.items w.first_methods.items };
+    ghost invariant = { λ w. IsWorld w.heads.items w.files.items w.names.items w.supers.items w.first_fields.items w.first_methods.items };
 }
+
+// As many classes as places can be told apart by a number.
+const MOST: usize = 4294967295;
 
 impl World {
     /// The world of the classes of these files and of a library's classes, or the first fault of the
@@ -44,12 +49,29 @@ impl World {
         woven: bool,
     ) -> Result<World, WorldFault>
         requires { IsLibrary library.now }
-        ensures heads { IfOk result (λ world. world.heads ≡ world_heads classes.items library.now) }
+        ensures heads { IfOk result (λ world. world.heads ≡ world_heads classes.items library.now woven) }
         ensures files { IfOk result (λ world. world.files ≡ classes.items) }
         ensures sound { OnOk result (IsSound classes.items library.now woven) }
         ensures fault { IfErr result (λ fault. (fault ≡ Memory) ⊎ IsFirstFault classes.items library.now woven fault) }
     {
-        Err(WorldFault::Memory)
+        let heads = heads_of(alloc, &classes, library)?;
+        if heads.len() > MOST {
+            return Err(WorldFault::Memory);
+        }
+        let names = index_names(alloc, &heads)?;
+        check(alloc, &names, &heads, &classes, woven)?;
+        let supers = supers_of(alloc, &names, &heads)?;
+        let first_fields = first_fields(alloc, &heads)?;
+        let first_methods = first_methods(alloc, &heads)?;
+        let names = in_order(alloc, &names)?;
+        Ok(World {
+            heads,
+            files: classes,
+            names,
+            supers,
+            first_fields,
+            first_methods,
+        })
     }
 
     /// The files of the classes that were given as files, in their order, with no memory taken.

@@ -1,4 +1,4 @@
-use Rattle.std.specs.Prelude.{◌<◌, length}
+use Rattle.std.specs.Prelude.{◌<◌, ◌≡◌, length}
 use Rattle.std.proofs.Common.{sym, ◌∙◌, subst, arith, get_or}
 use Rattle.std.proofs.lemmas.List.{get_or_read}
 use Rattle.class_world.specs.Places.{AreWithin, table_at}
@@ -12,7 +12,7 @@ append_new-requires-in-loop-step-clause-within c =
     let row = c.as_slice.ensures ∙ get_or_read c.args.tables.now step c.index-tables-step.result lt c.index-tables-step.is _ in
     let room : length c.args.tables.now ≡ length c.loop-step.seen = omega arith in
     subst (λ n. AreWithin n c.as_slice.result.now) room
-      (subst (AreWithin (length c.args.tables.now)) (sym row) (table_within (length c.args.tables.now) c.args.tables.now c.requires.tables step))
+    (subst (AreWithin (length c.args.tables.now)) (sym row) (table_within (length c.args.tables.now) c.args.tables.now c.requires.tables step))
 
 pub loop-step-preserved : goal.loop-step-preserved
 loop-step-preserved c =
