@@ -7,6 +7,7 @@ pub mod Fronts
 pub mod Utf8
 pub mod Classes
 pub mod Cases
+pub mod SoundNames
 pub mod SoundClasses
 pub mod Steps
 pub mod Refused

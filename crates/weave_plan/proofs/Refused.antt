@@ -27,7 +27,7 @@ use Rattle.weave_plan.specs.Parsed.{IsParsed, is_class_named, has_class_named, i
 use Rattle.weave_plan.specs.Fit.{Fit, IsWoven}
 use Rattle.weave_plan.specs.Plan.{IsPlan}
 use Rattle.weave_plan.specs.Worlds as world
-use Rattle.weave_plan.specs.WorldLaws.{sound-apart}
+use Rattle.weave_plan.proofs.SoundNames.{sound-apart}
 use Rattle.weave_plan.proofs.Lists.{slice_get_behind, zip_more}
 use Rattle.weave_plan.proofs.Cases.{match_true, match_false, of_true, of_false, or_false, not_only, not_not, cond_none, some_same, some_of, class_of, aspect_in, other_in}
 use Rattle.weave_plan.proofs.SoundClasses.{classes_formed, sound_free}

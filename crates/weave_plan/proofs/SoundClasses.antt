@@ -19,7 +19,7 @@ use Rattle.weave_plan.specs.declared.planning.PlanFault.TheVariants as plan_faul
 use Rattle.weave_plan.specs.Faults.{is_faulty, AreSound, AreRefused}
 use Rattle.weave_plan.specs.Parsed.{IsParsed, IsFormed, classes_in}
 use Rattle.weave_plan.specs.Worlds as world
-use Rattle.weave_plan.specs.WorldLaws.{sound-unreserved}
+use Rattle.weave_plan.proofs.SoundNames.{sound-unreserved}
 use Rattle.weave_plan.proofs.Cases.{class_of, aspect_in, other_in, formed_one}
 
 -- ---- the classes
