@@ -1,5 +1,6 @@
 //! What is printed: the usage line, and the line of a refusal.
-ghost use Rattle.std.specs.Prelude.{◌≡◌, ◌≢◌, IfOk};
+ghost use Rattle.std.specs.Prelude.{◌≡◌, ◌≢◌, ◌==◌, if◌then◌else◌, IfOk};
+ghost use Rattle.aj_names.specs.Hierarchy.{dotted};
 ghost use Rattle.aj_outside.specs.Counts.{ComesWithRise};
 ghost use Rattle.ajweave.specs.Words.{usage_line, refusal_line, refusal_words, world_words, refused_name, class_text};
 ghost use Rattle.ajweave.specs.Steps.{PrintsFor, Reports};
@@ -140,12 +141,28 @@ fn refused_name(alloc: Global, name: &[u8], why: &[u8]) -> Result<Vec<u8>, Alloc
 fn class_text(alloc: Global, name: &InternalName) -> Result<Vec<u8>, AllocError>
     ensures { IfOk result (λ text. text.items ≡ class_text name.now) }
 {
-    let bytes = utf8_of(alloc, name.as_slice())?;
-    let mut text = Vec::new(alloc);
-    for byte in bytes.as_slice() {
-        text.push(if *byte == b'/' { b'.' } else { *byte })?;
+    let text = utf8_of(alloc, name.as_slice())?;
+    dotted(alloc, text.as_slice())
+}
+
+/// A text with dots for `/`.
+fn dotted(alloc: Global, text: &[u8]) -> Result<Vec<u8>, AllocError>
+    ensures { IfOk result (λ dots. dots.items ≡ dotted text.now) }
+{
+    let mut dots = Vec::new(alloc);
+    for byte in text {
+        dots.push(dotted_byte(*byte))?;
     }
-    Ok(text)
+    Ok(dots)
+}
+
+fn dotted_byte(byte: u8) -> u8
+    ensures { result ≡ (if byte == 47 then 46 else byte) }
+{
+    match byte {
+        b'/' => b'.',
+        _ => byte,
+    }
 }
 
 /// The fault of a class file, as a refusal's line names it.

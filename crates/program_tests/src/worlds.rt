@@ -9,7 +9,7 @@ use std::test::Fail;
 
 /// A class without members.
 #[derive(Clone, Copy)]
-struct Class<'a> {
+struct Declared<'a> {
     flags: u16,
     name: &'a [u8],
     super_class: &'a [u8],
@@ -19,8 +19,8 @@ struct Class<'a> {
 const OBJECT: &[u8] = b"java/lang/Object";
 
 /// A public class.
-fn class<'a>(name: &'a [u8], super_class: &'a [u8]) -> Class<'a> {
-    Class {
+fn class<'a>(name: &'a [u8], super_class: &'a [u8]) -> Declared<'a> {
+    Declared {
         flags: 0x21,
         name,
         super_class,
@@ -29,8 +29,8 @@ fn class<'a>(name: &'a [u8], super_class: &'a [u8]) -> Class<'a> {
 }
 
 /// A public class that has interfaces.
-fn implementing<'a>(name: &'a [u8], interfaces: &'a [&'a [u8]]) -> Class<'a> {
-    Class {
+fn implementing<'a>(name: &'a [u8], interfaces: &'a [&'a [u8]]) -> Declared<'a> {
+    Declared {
         flags: 0x21,
         name,
         super_class: OBJECT,
@@ -39,8 +39,8 @@ fn implementing<'a>(name: &'a [u8], interfaces: &'a [&'a [u8]]) -> Class<'a> {
 }
 
 /// A public final class.
-fn last_class(name: &[u8]) -> Class<'_> {
-    Class {
+fn last_class(name: &[u8]) -> Declared<'_> {
+    Declared {
         flags: 0x31,
         name,
         super_class: OBJECT,
@@ -49,8 +49,8 @@ fn last_class(name: &[u8]) -> Class<'_> {
 }
 
 /// A public interface.
-fn interface<'a>(name: &'a [u8], interfaces: &'a [&'a [u8]]) -> Class<'a> {
-    Class {
+fn interface<'a>(name: &'a [u8], interfaces: &'a [&'a [u8]]) -> Declared<'a> {
+    Declared {
         flags: 0x601,
         name,
         super_class: OBJECT,
@@ -73,7 +73,7 @@ fn put_class(bytes: &mut Vec<u8>, index: u16, name: &[u8]) -> Result<(), AllocEr
 }
 
 /// The class file, of Java 1.4 (JVMS 4.1).
-fn class_file(alloc: Global, class: &Class<'_>) -> Result<Vec<u8>, AllocError> {
+fn class_file(alloc: Global, class: &Declared<'_>) -> Result<Vec<u8>, AllocError> {
     let interfaces = u16::try_from(class.interfaces.len()).unwrap_or(0);
     let mut bytes = Vec::from_slice(alloc, &[0xCA, 0xFE, 0xBA, 0xBE, 0, 0, 0, 48])?;
     put_number(&mut bytes, interfaces.saturating_mul(2).saturating_add(5))?;
@@ -97,7 +97,7 @@ fn class_file(alloc: Global, class: &Class<'_>) -> Result<Vec<u8>, AllocError> {
 }
 
 /// The files of these classes, named by their places.
-fn files_of(alloc: Global, classes: &[Class<'_>]) -> Result<Vec<(Name, Vec<u8>)>, AllocError> {
+fn files_of(alloc: Global, classes: &[Declared<'_>]) -> Result<Vec<(Name, Vec<u8>)>, AllocError> {
     let mut files = Vec::new(alloc);
     for (place, class) in classes.iter().enumerate() {
         let name = format!(in alloc; "in/{place}.class")?;
@@ -107,13 +107,13 @@ fn files_of(alloc: Global, classes: &[Class<'_>]) -> Result<Vec<(Name, Vec<u8>)>
 }
 
 /// Weaves these classes.
-fn weave_classes(alloc: Global, classes: &[Class<'_>]) -> Result<Outcome, AllocError> {
+fn weave_classes(alloc: Global, classes: &[Declared<'_>]) -> Result<Outcome, AllocError> {
     let files = files_of(alloc, classes)?;
     weave_files(alloc, files)
 }
 
 /// Whether these classes are refused with this line.
-fn refuses(alloc: Global, classes: &[Class<'_>], line: &str) -> Result<bool, AllocError> {
+fn refuses(alloc: Global, classes: &[Declared<'_>], line: &str) -> Result<bool, AllocError> {
     let left = weave_classes(alloc, classes)?;
     Ok(is_refused(&left, line, classes.len()))
 }
@@ -201,7 +201,7 @@ fn circles(rt: HostRuntime) -> Result<(), Fail> {
 }
 
 /// Whether the class was written as it is.
-fn is_kept(alloc: Global, left: &Outcome, name: &str, class: &Class<'_>) -> Result<bool, AllocError> {
+fn is_kept(alloc: Global, left: &Outcome, name: &str, class: &Declared<'_>) -> Result<bool, AllocError> {
     let bytes = class_file(alloc, class)?;
     Ok(holds(left, name, bytes.as_slice()))
 }
