@@ -1,5 +1,5 @@
 -- The marks of a pool's texts tell which names are reserved.
-use Rattle.std.proofs.Common.{◌≡◌, ℕ, zero, suc, ◌+◌, ◌-◌, ◌<◌, length, take, drop, Bool, true, false, List, [], ◌∷◌, Option, Some, None, refl, ap, sym, ◌∙◌, arith}
+use Rattle.std.proofs.Common.{◌≡◌, ℕ, zero, suc, ◌+◌, ◌-◌, ◌<◌, length, take, drop, Bool, false, List, [], ◌∷◌, Option, Some, None, refl, ap, sym, ◌∙◌, arith}
 use Rattle.std.specs.Prelude.{map, ◌||◌, slice_get, option_and_then, unwrap_or, codes, nat_eq}
 use Rattle.std.specs.Option.{option_map}
 use Rattle.std.specs.List.{list_any, starts_with}

@@ -1,11 +1,11 @@
 -- Worked examples: a few classes each, whose supertypes and members the definitions compute.
-use Rattle.std.specs.Prelude.{◌≡◌, refl, ℕ, Bool, true, false, List, [], ◌∷◌, codes, Option, Some, None}
+use Rattle.std.specs.Prelude.{◌≡◌, refl, ℕ, true, false, List, [], ◌∷◌, codes, Option, Some, None}
 use Rattle.aj_names.specs.declared.types.MemberName.{MemberName}
 use Rattle.class_file.specs.declared.access.AccessFlags.{AccessFlags}
 use Rattle.class_heads.specs.declared.types.FieldHead.{FieldHead}
 use Rattle.class_heads.specs.declared.types.MethodHead.{MethodHead}
 use Rattle.class_heads.specs.declared.types.ClassHead.{ClassHead}
-use Rattle.class_heads.specs.Hierarchy.{object_name, place_of, supers_at, superclasses, order, supertypes, supertype_names, is_subtype, type_named, class_of_members}
+use Rattle.class_heads.specs.Hierarchy.{object_name, supers_at, superclasses, order, supertypes, supertype_names, is_subtype, type_named, class_of_members}
 use Rattle.class_heads.specs.Searches.{in_class, find_field, find_method, select}
 use Rattle.class_heads.specs.Numbers.{number_of, method_counts}
 use Rattle.class_heads.specs.Reserved.{has_mark}

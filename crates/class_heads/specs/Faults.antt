@@ -1,6 +1,6 @@
 -- What may be wrong with given classes beside a library's: the first kind of fault that there is, and of
 -- it the least class name in the order of its bytes (JVMS 2.6.7, 4.1).
-use Rattle.std.specs.Prelude.{◌≡◌, ◌≢◌, ℕ, Bool, true, false, not, ◌&&◌, ◌||◌, List, map, ◌++◌, nat_lt, Option, Some, None, is_none, IsTrue, IsSome}
+use Rattle.std.specs.Prelude.{◌≡◌, ◌≢◌, ℕ, Bool, false, not, ◌&&◌, ◌||◌, List, map, ◌++◌, nat_lt, Option, Some, None, is_none, IsTrue, IsSome}
 use Rattle.std.specs.List.{find, list_any, count_by, Contains}
 use Rattle.std.specs.Option.{option_to_list}
 use Rattle.std.specs.Ordering.{nat_cmp}
@@ -13,7 +13,7 @@ use Rattle.class_heads.specs.declared.fault.WorldFault.TheVariants.{Duplicate, R
 use Rattle.class_heads.specs.Heads.{head_of}
 use Rattle.class_heads.specs.Reserved.{is_reserved}
 use Rattle.class_heads.specs.Graph.{LiesOnCircle}
-use Rattle.class_heads.specs.Hierarchy.{is_named, is_interface, is_final, place_of, class_named, class_names, supers_at}
+use Rattle.class_heads.specs.Hierarchy.{is_named, is_interface, is_final, place_of, class_named, supers_at}
 
 -- the one name is the other, or stands before it in the order of bytes
 abbrev pub IsAtMost : List ℕ → List ℕ → Type 0

@@ -1,13 +1,12 @@
 -- The first fault of classes is one alone.
-use Rattle.std.specs.Prelude.{◌≡◌, ℕ, zero, suc, ◌+◌, ◌<◌, ◌≤◌, Bool, true, false, cond, ◌⊎◌, List, [], ◌∷◌, ◌++◌, map, length, take, Option, Some, None, unwrap_or, refl, nat_lt, IsTrue}
+use Rattle.std.specs.Prelude.{◌≡◌, ℕ, zero, suc, ◌+◌, ◌<◌, ◌≤◌, Bool, true, cond, List, [], ◌∷◌, map, length, take, Option, Some, unwrap_or, refl}
 use Rattle.std.proofs.Common.{sym, ◌∙◌, ap, subst, inl, inr, arith, get_or}
 use Rattle.std.specs.List.{count_by, Contains, slice_index_or}
-use Rattle.std.specs.Str.{bytes_eq}
 use Rattle.std.specs.declared.cmp.Ordering.{Ordering}
 use Rattle.std.specs.Ordering.{nat_cmp, is_eq, ordering_reverse}
 use Rattle.std.specs.declared.cmp.Ordering.TheVariants.{Less, Equal, Greater}
 use Rattle.std.specs.Cmp.Lexicographic.{slice_cmp, nat_list_cmp_total}
-use Rattle.std.proofs.lemmas.Bool.{eq-eqb, cases_Bool, cases_lt, false≢true, lt-ltb}
+use Rattle.std.proofs.lemmas.Bool.{cases_lt, lt-ltb}
 use Rattle.std.proofs.lemmas.List.{get_or-take, get_or_append_left, length-map, length-append, length-take-le}
 use Rattle.std.proofs.lemmas.List.Sums.{count_by_more_yes, get_or-le-sum_by, sum_by-take-le}
 use Rattle.std.proofs.lemmas.Map.Text.{is_eq-slice_cmp}
@@ -18,7 +17,7 @@ use Rattle.class_heads.specs.declared.fault.WorldFault.{WorldFault}
 use Rattle.class_heads.specs.declared.fault.WorldFault.TheVariants.{Duplicate, Reserved, MissingSuper, FinalSuper, Circle, Memory}
 use Rattle.class_heads.specs.Heads.{head_of}
 use Rattle.class_heads.specs.Hierarchy.{is_named}
-use Rattle.class_heads.specs.Faults.{IsAtMost, has_twin, missing_super, world_heads, IsDuplicate, Never, IsLeast, IsFirstFault}
+use Rattle.class_heads.specs.Faults.{IsAtMost, missing_super, world_heads, IsDuplicate, Never, IsLeast, IsFirstFault}
 
 -- ---- the order of names
 

@@ -7,7 +7,6 @@ use Rattle.aj_names.specs.declared.types.MemberName.{MemberName}
 use Rattle.class_file.specs.declared.pool.PoolEntry.{PoolEntry}
 use Rattle.class_file.specs.declared.types.ClassFile.{ClassFile}
 use Rattle.class_file.specs.declared.types.Member.{Member}
-use Rattle.class_file.specs.declared.types.Attribute.{Attribute}
 use Rattle.class_file.specs.declared.types.Content.{Content}
 use Rattle.class_file.specs.declared.types.Content.TheVariants.{ConstantValue, Exceptions, Synthetic}
 use Rattle.class_file.specs.Pool.{text_at, class_at, super_name}

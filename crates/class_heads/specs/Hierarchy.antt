@@ -2,7 +2,7 @@
 -- several classes of one name the first counts. Of a list in which no class is a supertype of itself, no
 -- way upward is longer than the list.
 use Rattle.std.specs.Prelude.{ℕ, ◌==◌, Bool, true, false, ◌||◌, if◌then◌else◌, List, [], ◌∷◌, ◌++◌, map, codes, nat_eq, length, slice_get, Option, Some, None, is_some}
-use Rattle.std.specs.List.{find, filter_map, list_any, position_from, take_while}
+use Rattle.std.specs.List.{find, filter_map, list_any, position_from}
 use Rattle.std.specs.Option.{option_map, option_to_list, unwrap_or}
 use Rattle.std.specs.Str.{bytes_eq}
 use Rattle.class_heads.specs.declared.types.ClassHead.{ClassHead}

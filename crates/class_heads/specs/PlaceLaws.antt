@@ -1,8 +1,7 @@
 -- Laws of the place of a class in a list: it is the first of its name.
-use Rattle.std.specs.Prelude.{◌≡◌, ℕ, zero, suc, ◌+◌, ◌<◌, ◌≤◌, Bool, true, false, ◌||◌, cond, ◌⊎◌, List, [], ◌∷◌, map, length, slice_get, Option, Some, None, is_some, unwrap_or, option_and_then, refl, nat_lt, nat_eq}
-use Rattle.std.proofs.Common.{sym, ◌∙◌, ap, subst, inl, inr, arith}
-use Rattle.std.specs.List.{position_from, position_or_len, find, filter_map, cons_option, slice_index_or}
-use Rattle.std.specs.Option.{option_map}
+use Rattle.std.specs.Prelude.{◌≡◌, ℕ, ◌+◌, ◌<◌, ◌≤◌, Bool, true, false, ◌||◌, cond, ◌⊎◌, List, [], ◌∷◌, map, length, slice_get, Option, Some, None, is_some, unwrap_or, option_and_then, refl, nat_lt, nat_eq}
+use Rattle.std.proofs.Common.{sym, ◌∙◌, ap, inl, inr, arith}
+use Rattle.std.specs.List.{position_from, position_or_len, filter_map, cons_option, slice_index_or}
 use Rattle.std.specs.Str.{bytes_eq}
 use Rattle.std.proofs.lemmas.Bool.{cases_Bool, false≢true, eqb-true, ltb-true, ltb-false}
 use Rattle.std.proofs.lemmas.List.{length-map}

@@ -4,7 +4,6 @@ use Rattle.std.specs.List.{filter, position_from}
 use Rattle.std.specs.Option.{option_map, option_or}
 use Rattle.std.specs.Str.{bytes_eq}
 use Rattle.aj_names.specs.declared.types.MemberName.{MemberName}
-use Rattle.class_heads.specs.declared.types.FieldHead.{FieldHead}
 use Rattle.class_heads.specs.declared.types.MethodHead.{MethodHead}
 use Rattle.class_heads.specs.declared.types.ClassHead.{ClassHead}
 use Rattle.class_heads.specs.Heads.{has_flag}

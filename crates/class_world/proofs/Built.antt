@@ -26,10 +26,17 @@ module _ (classes : List ClassFile) (library : List ClassHead) (woven : Bool) (l
   pub disorder_fault : (fault : WorldFault) → IsDisorder (world_heads classes library woven) classes woven fault → (fault ≡ Memory) ⊎ IsFirstFault classes library woven fault
   disorder_fault (Duplicate name) h = inr (subst (IsLeast classes library woven (IsDuplicate classes library woven)) (sym h.2) (later_least classes library woven lib h.0 h.1))
   disorder_fault (Reserved name) h = inr (later_never classes library woven h.1, subst (IsLeast classes library woven (TakesReserved classes library woven)) (sym h.3) (reserved_least classes library woven h.0 h.2))
-  disorder_fault (MissingSuper class name) h = inr (later_never classes library woven h.1, reserved_never classes library woven h.2,
-      subst (λ z. IsLacking classes library woven z name) (sym h.4.named) (lacking_least classes library woven h.0 h.4.head name h.3 h.4.stands h.4.missing))
-  disorder_fault (FinalSuper name) h = inr (later_never classes library woven h.1, reserved_never classes library woven h.2, lacking_never classes library woven h.3,
-      subst (IsLeast classes library woven (HasWrongSuper classes library woven)) (sym h.5) (wrong_least classes library woven h.0 h.4))
+  disorder_fault (MissingSuper class name) h = inr (
+    later_never classes library woven h.1,
+    reserved_never classes library woven h.2,
+    subst (λ z. IsLacking classes library woven z name) (sym h.4.named) (lacking_least classes library woven h.0 h.4.head name h.3 h.4.stands h.4.missing),
+  )
+  disorder_fault (FinalSuper name) h = inr (
+    later_never classes library woven h.1,
+    reserved_never classes library woven h.2,
+    lacking_never classes library woven h.3,
+    subst (IsLeast classes library woven (HasWrongSuper classes library woven)) (sym h.5) (wrong_least classes library woven h.0 h.4),
+  )
   disorder_fault (Circle name) h = absurd h
   disorder_fault Memory h = inl refl
 
@@ -38,9 +45,14 @@ module _ (classes : List ClassFile) (library : List ClassHead) (woven : Bool) (l
   ring_fault (Reserved name) o h = absurd h
   ring_fault (MissingSuper class name) o h = absurd h
   ring_fault (FinalSuper name) o h = absurd h
-  ring_fault (Circle name) o h = inr (later_never classes library woven o.later, reserved_never classes library woven o.taking, lacking_never classes library woven o.lacking, wrong_never classes library woven o.wrong,
-      subst (IsLeast classes library woven (IsOnCircle classes library woven)) (sym h.2)
-        (circle_least classes library woven lib (differ (world_heads classes library woven) classes woven o.later) h.0 h.1))
+  ring_fault (Circle name) o h = inr (
+    later_never classes library woven o.later,
+    reserved_never classes library woven o.taking,
+    lacking_never classes library woven o.lacking,
+    wrong_never classes library woven o.wrong,
+    subst (IsLeast classes library woven (IsOnCircle classes library woven)) (sym h.2)
+        (circle_least classes library woven lib (differ (world_heads classes library woven) classes woven o.later) h.0 h.1),
+  )
   ring_fault Memory o h = inl refl
 
   pub all_sound : (tables : List (List ℕ)) → AreOrderly (world_heads classes library woven) classes woven → AreTabled (world_heads classes library woven) tables → IsSound classes library woven

@@ -94,7 +94,7 @@ module _ (heads : List ClassHead) (Before Among Holds : ℕ → Type 0) (place :
         | inl before ↦ h.least other before holds
         | inr e' ↦ subst (λ z. IsAtMost (name_at heads best) (name_at heads z)) (sym e')
             (above_not (slice_cmp nat_cmp (name_at heads best) (name_at heads place))
-              (ap is_gt (nat_list_cmp_total.antisymm (name_at heads best) (name_at heads place)) ∙ not_less_back (slice_cmp nat_cmp (name_at heads place) (name_at heads best)) e))
+            (ap is_gt (nat_list_cmp_total.antisymm (name_at heads best) (name_at heads place)) ∙ not_less_back (slice_cmp nat_cmp (name_at heads place) (name_at heads best)) e))
       ];
     })
 
@@ -108,9 +108,9 @@ pub counted_step : (heads : List ClassHead) (test : ℕ → Bool) (place : ℕ) 
     → IsFirst heads (IsBefore (place + 1)) (λ other. test other ≡ true) new
 counted_step heads test place best new answer h is is_new =
     subst (IsFirst heads (IsBefore (place + 1)) (λ other. test other ≡ true)) (sym is_new)
-      (first_step heads (IsBefore place) (IsBefore (place + 1)) (λ other. test other ≡ true) place (omega arith)
-        (λ other a. elim (cases_lt other place) [ | inl lt ↦ inl lt | inr past ↦ inr (omega arith) ]) (λ other lt. omega arith)
-        best answer h (λ e. sym is ∙ e) (λ e t. both_ways answer e (is ∙ t)))
+    (first_step heads (IsBefore place) (IsBefore (place + 1)) (λ other. test other ≡ true) place (omega arith)
+    (λ other a. elim (cases_lt other place) [ inl lt ↦ inl lt | inr past ↦ inr (omega arith) ]) (λ other lt. omega arith)
+    best answer h (λ e. sym is ∙ e) (λ e t. both_ways answer e (is ∙ t)))
 
 -- ---- among stuck places
 
@@ -121,7 +121,7 @@ better_none heads best place false e = (refl, e)
 pub taken_cases : (xs : List ℕ) (i q : ℕ) → i < length xs → stands_in (take (i + 1) xs) q ≡ true → (stands_in (take i xs) q ≡ true) ⊎ (q ≡ get_or xs i 0)
 taken_cases xs i q lt h =
     let t : (stands_in (take i xs) q || (get_or xs i 0 == q)) ≡ true = sym (ap (λ z. stands_in z q) (take_more xs i 0 lt) ∙ stands_push (take i xs) (get_or xs i 0) q) ∙ h in
-    elim (or_cases (stands_in (take i xs) q) (get_or xs i 0 == q) t) [ | inl a ↦ inl a | inr b ↦ inr (sym (eqb-true (get_or xs i 0) q b)) ]
+    elim (or_cases (stands_in (take i xs) q) (get_or xs i 0 == q) t) [ inl a ↦ inl a | inr b ↦ inr (sym (eqb-true (get_or xs i 0) q b)) ]
 
 pub taken_more : (xs : List ℕ) (i q : ℕ) → i < length xs → stands_in (take i xs) q ≡ true → stands_in (take (i + 1) xs) q ≡ true
 taken_more xs i q lt h = ap (λ z. stands_in z q) (take_more xs i 0 lt) ∙ stands_push (take i xs) (get_or xs i 0) q ∙ or_left (stands_in (take i xs) q) (get_or xs i 0 == q) h
@@ -133,17 +133,18 @@ pub circle_step : (heads : List ClassHead) (steps : List (List ℕ)) (stuck : Li
     → IsFirst heads (λ q. stands_in (take i stuck) q ≡ true) (LiesOnCircle (table_at steps)) best → (best ≡ None → (q : ℕ) → stands_in (take i stuck) q ≡ true → IsJudged steps q false)
     → IsFirst heads (λ q. stands_in (take (i + 1) stuck) q ≡ true) (LiesOnCircle (table_at steps)) new × (new ≡ None → (q : ℕ) → stands_in (take (i + 1) stuck) q ≡ true → IsJudged steps q false)
 circle_step heads steps stuck i best new circular lt judged is first off =
-    let p = get_or stuck i 0 in
-    (subst (IsFirst heads (λ q. stands_in (take (i + 1) stuck) q ≡ true) (LiesOnCircle (table_at steps))) (sym is)
-      (first_step heads (λ q. stands_in (take i stuck) q ≡ true) (λ q. stands_in (take (i + 1) stuck) q ≡ true) (LiesOnCircle (table_at steps)) p
-        (taken_here stuck i lt) (λ q h. taken_cases stuck i q lt h) (λ q h. taken_more stuck i q lt h) best circular first
-        (λ e. judged_on steps p (subst (IsJudged steps p) e judged)) (λ e. judged_off steps p (subst (IsJudged steps p) e judged))),
-    λ none q h.
-      let b = better_none heads best p circular (sym is ∙ none) in
-      elim (taken_cases stuck i q lt h) [
-        | inl before ↦ off b.1 q before
-        | inr e ↦ subst (λ z. IsJudged steps z false) (sym e) (subst (IsJudged steps p) b.0 judged)
-      ])
+    let p = get_or stuck i 0 in (
+      subst (IsFirst heads (λ q. stands_in (take (i + 1) stuck) q ≡ true) (LiesOnCircle (table_at steps))) (sym is)
+          (first_step heads (λ q. stands_in (take i stuck) q ≡ true) (λ q. stands_in (take (i + 1) stuck) q ≡ true) (LiesOnCircle (table_at steps)) p
+          (taken_here stuck i lt) (λ q h. taken_cases stuck i q lt h) (λ q h. taken_more stuck i q lt h) best circular first
+          (λ e. judged_on steps p (subst (IsJudged steps p) e judged)) (λ e. judged_off steps p (subst (IsJudged steps p) e judged))),
+      λ none q h.
+          let b = better_none heads best p circular (sym is ∙ none) in
+          elim (taken_cases stuck i q lt h) [
+            | inl before ↦ off b.1 q before
+            | inr e ↦ subst (λ z. IsJudged steps z false) (sym e) (subst (IsJudged steps p) b.0 judged)
+          ],
+    )
 
 pub circle_end : (heads : List ClassHead) (steps : List (List ℕ)) (stuck : List ℕ) (i p : ℕ) → length stuck ≤ i → length heads ≡ length steps → IsStuck steps stuck
     → IsFirst heads (λ q. stands_in (take i stuck) q ≡ true) (LiesOnCircle (table_at steps)) (Some p) → IsFirstPlace heads (IsBefore (length heads)) (LiesOnCircle (table_at steps)) p

@@ -44,7 +44,7 @@ module _ (classes : List ClassFile) (library : List ClassHead) (woven : Bool) wh
         named = sym (name_given p file.0 file.1);
         holds = to p file.0 file.1 f.holds;
         least = λ other c holds. let at = contained_at classes other c in
-          subst (λ z. IsAtMost (name_at (world_heads classes library woven) p) z) (name_given at.0 other at.2) (f.least at.0 at.1 (from at.0 other at.2 holds));
+            subst (λ z. IsAtMost (name_at (world_heads classes library woven) p) z) (name_given at.0 other at.2) (f.least at.0 at.1 (from at.0 other at.2 holds));
       }
 
   pub given_never : (P : ClassFile → Type 0) (Q : ℕ → Type 0) → ((p : ℕ) (c : ClassFile) → slice_get classes p ≡ Some c → P c → Q p)
@@ -73,15 +73,17 @@ module _ (classes : List ClassFile) (library : List ClassHead) (woven : Bool) wh
       → slice_get (world_heads classes library woven) p ≡ Some head → missing_super (world_heads classes library woven) head ≡ Some name → IsLacking classes library woven (name_at (world_heads classes library woven) p) name
   lacking_least p head name f at missing =
       let file = file_at classes p f.among in
-      let same : head ≡ head_of file.0 = let h = head_given p file.0 file.1 in let s : Some head ≡ Some (head_of file.0) = sym at ∙ h in cc in
-      (record {
-        class = file.0;
-        given = file.2;
-        named = sym (name_given p file.0 file.1);
-        holds = sym (lacks_at p file.0 file.1) ∙ f.holds;
-        least = λ other c holds. let k = contained_at classes other c in
-          subst (λ z. IsAtMost (name_at (world_heads classes library woven) p) z) (name_given k.0 other k.2) (f.least k.0 k.1 (lacks_at k.0 other k.2 ∙ holds));
-      }, sym (ap (missing_super (world_heads classes library woven)) same) ∙ missing)
+      let same : head ≡ head_of file.0 = let h = head_given p file.0 file.1 in let s : Some head ≡ Some (head_of file.0) = sym at ∙ h in cc in (
+        record {
+          class = file.0;
+          given = file.2;
+          named = sym (name_given p file.0 file.1);
+          holds = sym (lacks_at p file.0 file.1) ∙ f.holds;
+          least = λ other c holds. let k = contained_at classes other c in
+              subst (λ z. IsAtMost (name_at (world_heads classes library woven) p) z) (name_given k.0 other k.2) (f.least k.0 k.1 (lacks_at k.0 other k.2 ∙ holds));
+        },
+        sym (ap (missing_super (world_heads classes library woven)) same) ∙ missing,
+      )
 
   -- ---- supertypes of the wrong kind
 
@@ -145,9 +147,9 @@ module _ (classes : List ClassFile) (library : List ClassHead) (woven : Bool) wh
             let a = behind k past in
             let b = behind p (omega arith) in
             let both : 1 < count_by (is_named at.1.name) library = two_count (is_named at.1.name) library (k - length classes) (p - length classes) at.1 mine.0 (omega arith) (sym a ∙ at.3) (sym b ∙ mine.1)
-                  (own_bytes at.1.name) (ap (bytes_eq mine.0.name) own ∙ named) in
+            (own_bytes at.1.name) (ap (bytes_eq mine.0.name) own ∙ named) in
             absurd (both_ways (has_twin library at.1) (lib.different at.1 (k - length classes, slice_get_within library (k - length classes) at.1 (sym a ∙ at.3), get_or_from_slice_get library (k - length classes) at.1 at.1 (sym a ∙ at.3)))
-              (lt-ltb 1 (count_by (is_named at.1.name) library) both))
+            (lt-ltb 1 (count_by (is_named at.1.name) library) both))
       ]
 
   pub later_least : IsLibrary library → (p : ℕ) → IsFirstPlace (world_heads classes library woven) (IsBefore (length (world_heads classes library woven))) (λ p. is_later (world_heads classes library woven) p ≡ true) p
@@ -160,5 +162,5 @@ module _ (classes : List ClassFile) (library : List ClassHead) (woven : Bool) wh
         named = r.2;
         holds = r.3;
         least = λ other c twin. let l = twin_later other twin in
-          subst (λ z. IsAtMost (name_at (world_heads classes library woven) p) z) l.3 (f.least l.0 l.1 l.2);
+            subst (λ z. IsAtMost (name_at (world_heads classes library woven) p) z) l.3 (f.least l.0 l.1 l.2);
       }

@@ -13,3 +13,4 @@ pub mod Upward
 pub mod NameOrder
 pub mod Below
 pub mod Numbered
+pub mod Asked

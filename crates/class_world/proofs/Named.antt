@@ -37,9 +37,9 @@ position_push t i [] x = ap (λ n. cond (t x) (Some n) None) (let e : i ≡ i + 
 position_push t i (y ∷ ys) x =
     ap (cond (t y) (Some i)) (position_push t (i + 1) ys x ∙ ap (λ n. option_or (position_from t (i + 1) ys) (cond (t x) (Some n) None)) (let e : i + 1 + length ys ≡ i + suc (length ys) = omega arith in e))
     ∙ either (t y) where
-  either : (b : Bool) → cond b (Some i) (option_or (position_from t (i + 1) ys) (cond (t x) (Some (i + suc (length ys))) None)) ≡ option_or (cond b (Some i) (position_from t (i + 1) ys)) (cond (t x) (Some (i + suc (length ys))) None)
-  either true = refl
-  either false = refl
+      either : (b : Bool) → cond b (Some i) (option_or (position_from t (i + 1) ys) (cond (t x) (Some (i + suc (length ys))) None)) ≡ option_or (cond b (Some i) (position_from t (i + 1) ys)) (cond (t x) (Some (i + suc (length ys))) None)
+      either true = refl
+      either false = refl
 
 -- the element at a first place
 pub position_found : {X : Type 0} (t : X → Bool) (i p : ℕ) (xs : List X) → position_from t i xs ≡ Some p → (k : ℕ) × (p ≡ i + k) × (k < length xs) × (find t xs ≡ slice_get xs k)
@@ -96,21 +96,21 @@ pub index_old : (heads : List ClassHead) (names : BTreeMap (List ℕ) ℕ) (i : 
     → HasPlaces (take (i + 1) heads) names
 index_old heads names i d lt h there q =
     h q ∙ either (bytes_eq (get_or heads i d).name q) refl ∙ sym (place_more heads q i d lt) where
-  either : (b : Bool) → bytes_eq (get_or heads i d).name q ≡ b → place_of (take i heads) q ≡ option_or (place_of (take i heads) q) (cond (bytes_eq (get_or heads i d).name q) (Some i) None)
-  either true e = let same : (get_or heads i d).name ≡ q = same_bytes (get_or heads i d).name q e in
-      or_there (place_of (take i heads) q) (cond (bytes_eq (get_or heads i d).name q) (Some i) None) (sym (ap is_none (h q)) ∙ ap (is_unknown names) (sym same) ∙ there)
-  either false e = or_none (place_of (take i heads) q) ∙ ap (λ b. option_or (place_of (take i heads) q) (cond b (Some i) None)) (sym e)
+      either : (b : Bool) → bytes_eq (get_or heads i d).name q ≡ b → place_of (take i heads) q ≡ option_or (place_of (take i heads) q) (cond (bytes_eq (get_or heads i d).name q) (Some i) None)
+      either true e = let same : (get_or heads i d).name ≡ q = same_bytes (get_or heads i d).name q e in
+          or_there (place_of (take i heads) q) (cond (bytes_eq (get_or heads i d).name q) (Some i) None) (sym (ap is_none (h q)) ∙ ap (is_unknown names) (sym same) ∙ there)
+      either false e = or_none (place_of (take i heads) q) ∙ ap (λ b. option_or (place_of (take i heads) q) (cond b (Some i) None)) (sym e)
 
 pub index_new : (heads : List ClassHead) (names names' : BTreeMap (List ℕ) ℕ) (i : ℕ) (d : ClassHead) → i < length heads → HasPlaces (take i heads) names → is_unknown names (get_or heads i d).name ≡ true
     → ((q : List ℕ) → indexed names' q ≡ cond (is_eq (slice_cmp nat_cmp (get_or heads i d).name q)) (Some i) (indexed names q)) → HasPlaces (take (i + 1) heads) names'
 index_new heads names names' i d lt h absent updates q =
     updates q ∙ ap (λ b. cond b (Some i) (indexed names q)) (is_eq-slice_cmp (get_or heads i d).name q) ∙ either (bytes_eq (get_or heads i d).name q) refl ∙ sym (place_more heads q i d lt) where
-  either : (b : Bool) → bytes_eq (get_or heads i d).name q ≡ b → cond (bytes_eq (get_or heads i d).name q) (Some i) (indexed names q) ≡ option_or (place_of (take i heads) q) (cond (bytes_eq (get_or heads i d).name q) (Some i) None)
-  either true e = let same : (get_or heads i d).name ≡ q = same_bytes (get_or heads i d).name q e in
-      ap (λ b. cond b (Some i) (indexed names q)) e
-      ∙ or_absent (place_of (take i heads) q) (Some i) (sym (ap is_none (h q)) ∙ ap (is_unknown names) (sym same) ∙ absent)
-      ∙ ap (λ b. option_or (place_of (take i heads) q) (cond b (Some i) None)) (sym e)
-  either false e = ap (λ b. cond b (Some i) (indexed names q)) e ∙ h q ∙ or_none (place_of (take i heads) q) ∙ ap (λ b. option_or (place_of (take i heads) q) (cond b (Some i) None)) (sym e)
+      either : (b : Bool) → bytes_eq (get_or heads i d).name q ≡ b → cond (bytes_eq (get_or heads i d).name q) (Some i) (indexed names q) ≡ option_or (place_of (take i heads) q) (cond (bytes_eq (get_or heads i d).name q) (Some i) None)
+      either true e = let same : (get_or heads i d).name ≡ q = same_bytes (get_or heads i d).name q e in
+          ap (λ b. cond b (Some i) (indexed names q)) e
+          ∙ or_absent (place_of (take i heads) q) (Some i) (sym (ap is_none (h q)) ∙ ap (is_unknown names) (sym same) ∙ absent)
+          ∙ ap (λ b. option_or (place_of (take i heads) q) (cond b (Some i) None)) (sym e)
+      either false e = ap (λ b. cond b (Some i) (indexed names q)) e ∙ h q ∙ or_none (place_of (take i heads) q) ∙ ap (λ b. option_or (place_of (take i heads) q) (cond b (Some i) None)) (sym e)
 
 -- ---- steps
 
@@ -132,23 +132,23 @@ pub steps_are : (heads : List ClassHead) (names : BTreeMap (List ℕ) ℕ) (step
 steps_are heads names steps h is =
     let len : length steps ≡ length heads = ap length is ∙ length-map heads (named_places names) in
     let each : (p : ℕ) → get_or steps p [] ≡ supers_at heads p = λ p.
-      sym (unwrap_or-slice_get steps p []) ∙ ap (λ z. unwrap_or (slice_get z p) []) is ∙ ap (λ o. unwrap_or o []) (slice_get-map (named_places names) heads p) ∙ by_option (slice_get heads p) in
+    sym (unwrap_or-slice_get steps p []) ∙ ap (λ z. unwrap_or (slice_get z p) []) is ∙ ap (λ o. unwrap_or o []) (slice_get-map (named_places names) heads p) ∙ by_option (slice_get heads p) in
     record {
       len = len;
       each = each;
       within = λ k d lt. subst (All (λ q. q < length heads)) (sym (get_or_default steps k d [] lt ∙ each k))
-        (filter_map-All (λ q. q < length heads) (place_of heads) (super_names (slice_get heads k)) (λ name q e. (place_found heads name q e).0));
+          (filter_map-All (λ q. q < length heads) (place_of heads) (super_names (slice_get heads k)) (λ name q e. (place_found heads name q e).0));
     } where
-  by_option : (o : Option ClassHead) → unwrap_or (option_map (named_places names) o) [] ≡ filter_map (place_of heads) (super_names o)
-  by_option None = refl
-  by_option (Some c) = filter_map-same (indexed names) (place_of heads) (c.interfaces ++ option_to_list c.super_class) h
+      by_option : (o : Option ClassHead) → unwrap_or (option_map (named_places names) o) [] ≡ filter_map (place_of heads) (super_names o)
+      by_option None = refl
+      by_option (Some c) = filter_map-same (indexed names) (place_of heads) (c.interfaces ++ option_to_list c.super_class) h
 
 -- ---- loops over names
 
 pub found_here : {X : Type 0} (t : X → Bool) (xs : List X) (i : ℕ) (x : X) → i < length xs → x ≡ get_or xs i x → find t (take i xs) ≡ None → t x ≡ true → Some x ≡ find t xs
 found_here t xs i x lt is none passes =
     sym (ap (find t) (sym (take-append-drop i xs)) ∙ find-append t (take i xs) (drop i xs) ∙ ap (λ o. option_or o (find t (drop i xs))) none
-      ∙ ap (find t) (drop_more xs i x lt ∙ ap (λ z. z ∷ drop (i + 1) xs) (sym is)) ∙ ap (λ b. cond b (Some x) (find t (drop (i + 1) xs))) passes)
+    ∙ ap (find t) (drop_more xs i x lt ∙ ap (λ z. z ∷ drop (i + 1) xs) (sym is)) ∙ ap (λ b. cond b (Some x) (find t (drop (i + 1) xs))) passes)
 
 pub found_later : {X : Type 0} (t : X → Bool) (xs : List X) (i : ℕ) (x : X) → i < length xs → x ≡ get_or xs i x → find t (take i xs) ≡ None → t x ≡ false → find t (take (i + 1) xs) ≡ None
 found_later t xs i x lt is none off =

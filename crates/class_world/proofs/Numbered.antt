@@ -1,21 +1,24 @@
 -- Numbers of members, and the members that searches find.
-use Rattle.std.specs.Prelude.{◌≡◌, ℕ, zero, suc, ◌+◌, ◌<◌, ◌≤◌, ◌^◌, Bool, true, false, if◌then◌else◌, List, [], ◌∷◌, length, map, take, slice_get, Option, Some, None, option_and_then, refl}
-use Rattle.std.proofs.Common.{get_or, sym, ap, ◌∙◌, subst, arith, inl, inr}
+use Rattle.std.specs.Prelude.{◌≡◌, ℕ, zero, suc, ◌+◌, ◌-◌, ◌<◌, ◌≤◌, ◌^◌, Bool, true, false, List, [], ◌∷◌, ◌++◌, length, map, slice_get, Option, Some, None, cond, refl}
+use Rattle.std.proofs.Common.{get_or, ap, ◌∙◌, subst, arith, inl, inr}
 use Rattle.std.specs.List.{sum}
 use Rattle.std.specs.Option.{option_map, option_or}
 use Rattle.std.proofs.lemmas.Bool.{cases_lt}
 use Rattle.std.proofs.lemmas.List.{take_all, length-map}
-use Rattle.std.proofs.lemmas.List.Sums.{sum_by_more, sum_by_more_le, sum_by-take-le}
+use Rattle.std.proofs.lemmas.List.Sums.{sum_by_more, sum_by_more_le}
 use Rattle.std.proofs.lemmas.Option.{option_and_then_some, cond_some, slice_get-map, slice_get_within, get_or_from_slice_get}
 use Rattle.aj_names.specs.declared.types.MemberName.{MemberName}
 use Rattle.class_heads.specs.declared.types.MethodHead.{MethodHead}
 use Rattle.class_heads.specs.declared.types.ClassHead.{ClassHead}
-use Rattle.class_heads.specs.Searches.{MemberPlace, in_class, first_found, field_position, method_position, field_in, method_in, is_selectable, if_selectable, selectable_of, selectable_in, same_name}
+use Rattle.std.specs.List.{filter}
+use Rattle.class_heads.specs.Hierarchy.{superclasses, order, supertypes}
+use Rattle.class_heads.specs.Searches.{MemberPlace, is_private, is_interface_at, method_at, selected, find_field, find_method, select, in_class, first_found, field_position, method_position, field_in, method_in, is_selectable, if_selectable, selectable_of, selectable_in, same_name}
 use Rattle.class_heads.specs.Numbers.{first_number, number_of, IsNumbered, field_counts, method_counts}
 use Rattle.class_world.specs.declared.lookups.members.Found.{Found}
 use Rattle.class_world.specs.Found.{member_place, StandsAt}
 use Rattle.class_world.specs.Tables.{IsFirsts}
 use Rattle.class_world.proofs.Positions.{position_from-within}
+use Rattle.class_world.proofs.Upward.{first_found-once}
 
 -- ---- numbers
 
@@ -126,7 +129,7 @@ method_in-stands heads member place position e =
 
 same_position : (heads : List ClassHead) (head : ClassHead) (position other : ℕ) (m : Option MethodHead) → slice_get head.methods position ≡ m → if_selectable heads head position ≡ Some other → position ≡ other
 same_position heads head position other None e h = let h' = rw e at h in absurd cc
-same_position heads head position other (Some m) e h = let h' = rw e at h in (cond_some (is_selectable heads m) position other h').1
+same_position heads head position other (Some m) e h = let h' = rw e at h in (cond_some (is_selectable m) position other h').1
 
 pub selectable_in-stands : (heads : List ClassHead) (member : MemberName) (place position : ℕ) → selectable_in heads member place ≡ Some position → Stands (method_counts heads) place position
 selectable_in-stands heads member place position e =
@@ -148,3 +151,50 @@ found_or search class m (Some position) rest e h later =
 pub first_found-at : (search : ℕ → Option ℕ) (classes : List ℕ) (m : MemberPlace) → first_found search classes ≡ Some m → search m.class ≡ Some m.position
 first_found-at search [] m h = absurd cc
 first_found-at search (class ∷ classes) m h = found_or search class m (search class) (first_found search classes) refl h (λ r. first_found-at search classes m r)
+
+-- ---- the whole searches
+
+-- a search by the table of a class's supertypes
+pub field_by_table : (heads : List ClassHead) (class : ℕ) (member : MemberName) (table : List ℕ) (found : Option Found) → table ≡ supertypes heads class → option_map member_place found ≡ first_found (field_in heads member) table → option_map member_place found ≡ find_field heads class member
+field_by_table heads class member table found is e = e ∙ ap (first_found (field_in heads member)) is ∙ first_found-once (field_in heads member) (order heads class)
+
+pub find_field-stands : (heads : List ClassHead) (class : ℕ) (member : MemberName) (m : MemberPlace) → find_field heads class member ≡ Some m → Stands (field_counts heads) m.class m.position
+find_field-stands heads class member m e = field_in-stands heads member m.class m.position (first_found-at (field_in heads member) (order heads class) m e)
+
+pub find_method-stands : (heads : List ClassHead) (class : ℕ) (member : MemberName) (m : MemberPlace) → find_method heads class member ≡ Some m → Stands (method_counts heads) m.class m.position
+find_method-stands heads class member m e =
+    method_in-stands heads member m.class m.position
+    (first_found-at (method_in heads member) (superclasses heads class ++ filter (is_interface_at heads) (order heads class)) m e)
+
+private_or : (heads : List ClassHead) (runtime : ℕ) (found m : MemberPlace) (method : MethodHead) (b : Bool) → Stands (method_counts heads) found.class found.position → cond b (Some found) (first_found (selectable_in heads method.name) (superclasses heads runtime)) ≡ Some m → Stands (method_counts heads) m.class m.position
+private_or heads runtime found m method true s e =
+    let same : found ≡ m = cc in
+    subst (λ (n : MemberPlace). Stands (method_counts heads) n.class n.position) same s
+private_or heads runtime found m method false s e =
+    selectable_in-stands heads method.name m.class m.position (first_found-at (selectable_in heads method.name) (superclasses heads runtime) m e)
+
+selected-stands : (heads : List ClassHead) (runtime : ℕ) (found m : MemberPlace) (method : Option MethodHead) → Stands (method_counts heads) found.class found.position → selected heads runtime found method ≡ Some m → Stands (method_counts heads) m.class m.position
+selected-stands heads runtime found m None s e = absurd cc
+selected-stands heads runtime found m (Some method) s e = private_or heads runtime found m method (is_private method) s e
+
+pub select-stands : (heads : List ClassHead) (runtime : ℕ) (found m : MemberPlace) → Stands (method_counts heads) found.class found.position → select heads runtime found ≡ Some m → Stands (method_counts heads) m.class m.position
+select-stands heads runtime found m s e = selected-stands heads runtime found m (method_at heads found) s e
+
+-- the number of a member that is there
+pub record HasNumber (counts firsts : List ℕ) (found : Found) : Type 0 where
+  pub class : found.class < length firsts
+  pub fits : get_or firsts found.class 0 + found.position < 2 ^ 32
+  pub is : get_or firsts found.class 0 + found.position ≡ number_of counts (member_place found)
+  pub less : get_or firsts found.class 0 + found.position < sum counts
+
+pub has_number : (counts firsts : List ℕ) (found : Found) → IsFirsts counts firsts → Stands counts found.class found.position → HasNumber counts firsts found
+has_number counts firsts found f s =
+    let first : get_or firsts found.class 0 ≡ first_number counts found.class = f.each found.class s.0 in
+    let less = number_of-less counts (member_place found) s.0 s.1 in
+    let within = s.0 in
+    record {
+      class = omega (arith, f.len);
+      fits = omega (arith, f.few);
+      is = omega arith;
+      less = omega arith;
+    }

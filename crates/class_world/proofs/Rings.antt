@@ -72,15 +72,15 @@ put_each (x ∷ xs) acc = elim (cases_Bool (stands_in acc x)) [
   | inl there ↦
       ap (λ z. fold with_new z xs) (with_new-there acc x there) ∙ put_each xs acc
       ∙ ap (λ z. acc ++ z)
-          (sym (filter_agree (λ y. not (x == y) && not (stands_in acc y)) (λ y. not (stands_in acc y)) (λ y. and_implied (not (stands_in acc y)) (not (x == y)) (not_stands acc x y there)) (graph.each_once xs))
-          ∙ sym (filter-filter (λ y. not (stands_in acc y)) (λ y. not (x == y)) (graph.each_once xs))
-          ∙ sym (ap (λ b. cond (not b) (x ∷ filter (λ y. not (stands_in acc y)) (filter (λ y. not (x == y)) (graph.each_once xs))) (filter (λ y. not (stands_in acc y)) (filter (λ y. not (x == y)) (graph.each_once xs)))) there))
+      (sym (filter_agree (λ y. not (x == y) && not (stands_in acc y)) (λ y. not (stands_in acc y)) (λ y. and_implied (not (stands_in acc y)) (not (x == y)) (not_stands acc x y there)) (graph.each_once xs))
+      ∙ sym (filter-filter (λ y. not (stands_in acc y)) (λ y. not (x == y)) (graph.each_once xs))
+      ∙ sym (ap (λ b. cond (not b) (x ∷ filter (λ y. not (stands_in acc y)) (filter (λ y. not (x == y)) (graph.each_once xs))) (filter (λ y. not (stands_in acc y)) (filter (λ y. not (x == y)) (graph.each_once xs)))) there))
   | inr absent ↦
       ap (λ z. fold with_new z xs) (with_new-new acc x absent) ∙ put_each xs (acc ++ x ∷ [])
       ∙ append_assoc acc (x ∷ []) (filter (λ y. not (stands_in (acc ++ x ∷ []) y)) (graph.each_once xs))
       ∙ ap (λ z. acc ++ (x ∷ z))
-          (filter_agree (λ y. not (stands_in (acc ++ x ∷ []) y)) (λ y. not (x == y) && not (stands_in acc y)) (λ y. ap not (stands_push acc x y) ∙ sym (or_not (stands_in acc y) (x == y))) (graph.each_once xs)
-          ∙ sym (filter-filter (λ y. not (stands_in acc y)) (λ y. not (x == y)) (graph.each_once xs)))
+      (filter_agree (λ y. not (stands_in (acc ++ x ∷ []) y)) (λ y. not (x == y) && not (stands_in acc y)) (λ y. ap not (stands_push acc x y) ∙ sym (or_not (stands_in acc y) (x == y))) (graph.each_once xs)
+      ∙ sym (filter-filter (λ y. not (stands_in acc y)) (λ y. not (x == y)) (graph.each_once xs)))
       ∙ ap (λ z. acc ++ z) (sym (ap (λ b. cond (not b) (x ∷ filter (λ y. not (stands_in acc y)) (filter (λ y. not (x == y)) (graph.each_once xs))) (filter (λ y. not (stands_in acc y)) (filter (λ y. not (x == y)) (graph.each_once xs)))) absent))
 ]
 
@@ -96,10 +96,10 @@ supers_are heads steps tables s t = record {
   len = t.len ∙ s.len;
   within = subst (λ n. All (All (λ p. p < n)) tables) s.len t.within;
   each = λ p lt.
-    let l = s.len in
-    let table = t.each p (omega arith) in
-    table.is ∙ ap each_once (order_walk steps (length steps) p ∙ walk_same (table_at steps) (supers_at heads) s.each (length steps) p ∙ ap (λ n. walk (supers_at heads) n p) s.len)
-    ∙ once_same (walk (supers_at heads) (length heads) p);
+      let l = s.len in
+      let table = t.each p (omega arith) in
+      table.is ∙ ap each_once (order_walk steps (length steps) p ∙ walk_same (table_at steps) (supers_at heads) s.each (length steps) p ∙ ap (λ n. walk (supers_at heads) n p) s.len)
+      ∙ once_same (walk (supers_at heads) (length heads) p);
 }
 
 -- ---- elements by their places
@@ -118,7 +118,7 @@ at_either [] ys x a = inr a
 at_either (z ∷ xs) ys x a = go (λ b. at_either xs ys x b) a.0 a.1 where
   go : (At (xs ++ ys) x → At xs x ⊎ At ys x) → (k : ℕ) → slice_get (z ∷ xs ++ ys) k ≡ Some x → At (z ∷ xs) x ⊎ At ys x
   go later zero e = inl (zero, e)
-  go later (suc k) e = elim (later (k, e)) [ | inl b ↦ inl (suc b.0, b.1) | inr b ↦ inr b ]
+  go later (suc k) e = elim (later (k, e)) [ inl b ↦ inl (suc b.0, b.1) | inr b ↦ inr b ]
 
 at_swapped : {X : Type 0} (xs ys : List X) (x : X) → At (xs ++ ys) x → At (ys ++ xs) x
 at_swapped xs ys x a = elim (at_either xs ys x a) [
@@ -131,9 +131,11 @@ unfound t [] k x h e = absurd (cc)
 unfound t (y ∷ xs) k x h e = either (λ k h e. unfound t xs k x h e) (t y) refl where
   here : (b : Bool) → t y ≡ b → cond (t y) (Some y) (find t xs) ≡ cond b (Some y) (find t xs)
   here b d = ap (λ b. cond b (Some y) (find t xs)) d
+
   go : ((k : ℕ) → find t xs ≡ None → slice_get xs k ≡ Some x → t x ≡ false) → (k : ℕ) → t y ≡ false → slice_get (y ∷ xs) k ≡ Some x → t x ≡ false
   go later zero d e = let same : y ≡ x = cc in sym (ap t same) ∙ d
   go later (suc k) d e = later k (sym (here false d) ∙ h) e
+
   either : ((k : ℕ) → find t xs ≡ None → slice_get xs k ≡ Some x → t x ≡ false) → (b : Bool) → t y ≡ b → t x ≡ false
   either later true d = let s : Some y ≡ None = sym (here true d) ∙ h in absurd (cc)
   either later false d = go later k d e
@@ -144,6 +146,7 @@ source f [] y a = absurd (let e = a.1 in cc)
 source {X} {Y} f (x ∷ xs) y a = go (λ b. source f xs y b) (f x) refl a.0 a.1 where
   next : (At (filter_map f xs) y → (z : X) × At xs z × (f z ≡ Some y)) → At (filter_map f xs) y → (z : X) × At (x ∷ xs) z × (f z ≡ Some y)
   next later b = let r = later b in (r.0, (suc r.1.0, r.1.1), r.2)
+
   go : (At (filter_map f xs) y → (z : X) × At xs z × (f z ≡ Some y)) → (o : Option Y) → f x ≡ o → (k : ℕ) → slice_get (cons_option o (filter_map f xs)) k ≡ Some y → (z : X) × At (x ∷ xs) z × (f z ≡ Some y)
   go later None e k h = next later (k, h)
   go later (Some z) e zero h = (x, (zero, refl), e ∙ h)
@@ -186,9 +189,11 @@ module _ (classes : List ClassFile) (library : List ClassHead) (woven : Bool) (l
       let s = source (place_of (world_heads classes library woven)) (c.interfaces ++ option_to_list c.super_class) next a in
       let k = known c s.0 (at_contains library c (j, e)) (at_swapped c.interfaces (option_to_list c.super_class) s.0 s.1) in
       let m = moved s.0 k.0 k.1 in
-      let is : Some next ≡ Some (length classes + k.0) = sym s.2 ∙ m in
-      (k.0, (let t : next ≡ length classes + k.0 = cc in t),
-        at_contains (supers_at library j) k.0 (subst (λ o. At (filter_map (place_of library) (super_names o)) k.0) (sym e) (target (place_of library) (c.interfaces ++ option_to_list c.super_class) s.1.0 s.0 k.0 s.1.1 k.1)))
+      let is : Some next ≡ Some (length classes + k.0) = sym s.2 ∙ m in (
+        k.0,
+        (let t : next ≡ length classes + k.0 = cc in t),
+        at_contains (supers_at library j) k.0 (subst (λ o. At (filter_map (place_of library) (super_names o)) k.0) (sym e) (target (place_of library) (c.interfaces ++ option_to_list c.super_class) s.1.0 s.0 k.0 s.1.1 k.1)),
+      )
 
   path_back : (count j q : ℕ) → PathOf (supers_at (world_heads classes library woven)) count (length classes + j) q → (k : ℕ) × (q ≡ length classes + k) × PathOf (supers_at library) count j k
   path_back zero j q path = (j, sym path, refl)
@@ -223,16 +228,16 @@ module _ (classes : List ClassFile) (library : List ClassHead) (woven : Bool) (l
         named = sym (name_given classes library woven p file.0 file.1);
         holds = subst (IsOnCircleAt (world_heads classes library woven)) (sym (place_given p file.0 file.1)) f.holds;
         least = λ other c holds. let k = contained_at classes other c in
-          subst (λ z. IsAtMost (name_at (world_heads classes library woven) p) z) (name_given classes library woven k.0 other k.2)
+            subst (λ z. IsAtMost (name_at (world_heads classes library woven) p) z) (name_given classes library woven k.0 other k.2)
             (f.least k.0 (slice_get_within (world_heads classes library woven) k.0 (head_of other) (head_given classes library woven k.0 other k.2))
-              (subst (IsOnCircleAt (world_heads classes library woven)) (place_given k.0 other k.2) holds));
+            (subst (IsOnCircleAt (world_heads classes library woven)) (place_given k.0 other k.2) holds));
       }
 
   pub circle_never : ((p : ℕ) → p < length (world_heads classes library woven) → LiesOnCircle (supers_at (world_heads classes library woven)) p → ⊥) → Never classes library woven (IsOnCircle classes library woven)
   circle_never none c k holds =
       let at = contained_at classes c k in
       none at.0 (slice_get_within (world_heads classes library woven) at.0 (head_of c) (head_given classes library woven at.0 c at.2))
-        (subst (IsOnCircleAt (world_heads classes library woven)) (place_given at.0 c at.2) holds)
+      (subst (IsOnCircleAt (world_heads classes library woven)) (place_given at.0 c at.2) holds)
 
 -- ---- by the steps that the code keeps
 
@@ -240,9 +245,9 @@ pub tabled : (heads : List ClassHead) (steps tables : List (List ℕ)) → AreSt
 tabled heads steps tables s t = record {
   supers = supers_are heads steps tables s t;
   ending = λ p lt on.
-    let l = s.len in
-    let table = t.each p (omega arith) in
-    below_off steps (length steps) on.0 p table.below (path_same (supers_at heads) (table_at steps) (λ q. sym (s.each q)) (suc on.0) p p on.1);
+      let l = s.len in
+      let table = t.each p (omega arith) in
+      below_off steps (length steps) on.0 p table.below (path_same (supers_at heads) (table_at steps) (λ q. sym (s.each q)) (suc on.0) p p on.1);
 }
 
 pub ring_place : (heads : List ClassHead) (steps : List (List ℕ)) (p : ℕ) → AreSteps heads steps → IsFirstPlace heads (IsBefore (length heads)) (LiesOnCircle (table_at steps)) p → IsFirstPlace heads (IsBefore (length heads)) (LiesOnCircle (supers_at heads)) p

@@ -1,5 +1,5 @@
 -- How a name as Java source writes it is compared with a class name.
-use Rattle.std.specs.Prelude.{◌≡◌, ℕ, List, [], ◌∷◌, ◌++◌, Option, None, Some}
+use Rattle.std.specs.Prelude.{◌≡◌, ℕ, List, Option, None, Some}
 use Rattle.std.specs.Borrow.{Bor}
 use Rattle.aj_names.specs.Hierarchy.{dotted, in_package}
 

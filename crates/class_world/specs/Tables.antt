@@ -6,6 +6,7 @@ use Rattle.std.specs.Cmp.Lexicographic.{slice_cmp}
 use Rattle.std.specs.BTreeMap.{BTreeMap, get}
 use Rattle.class_file.specs.declared.types.ClassFile.{ClassFile}
 use Rattle.class_heads.specs.declared.types.ClassHead.{ClassHead}
+use Rattle.class_heads.specs.Graph.{LiesOnCircle}
 use Rattle.class_heads.specs.Hierarchy.{place_of, name_at, supers_at, supertypes}
 use Rattle.class_world.specs.Names.{IsNameOrder}
 use Rattle.class_heads.specs.Numbers.{first_number, field_counts, method_counts}
@@ -30,6 +31,11 @@ HasPlaces heads names = (name : List ℕ) → indexed names name ≡ place_of he
 pub record IsIndex (heads : List ClassHead) (names : BTreeMap (List ℕ) ℕ) : Type 0 where
   pub places : HasPlaces heads names
   pub different : (place : ℕ) → place < length heads → place_of heads (name_at heads place) ≡ Some place
+
+-- each class has a name of its own, and none lies on a circle
+pub record IsWhole (heads : List ClassHead) : Type 0 where
+  pub different : (place : ℕ) → place < length heads → place_of heads (name_at heads place) ≡ Some place
+  pub ending : (place : ℕ) → LiesOnCircle (supers_at heads) place → ⊥
 
 -- of each class the list has the places one step up
 pub record AreSteps (heads : List ClassHead) (steps : List (List ℕ)) : Type 0 where

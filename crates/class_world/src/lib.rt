@@ -5,6 +5,7 @@
 
 mod building;
 mod circles;
+mod copies;
 mod faults;
 mod lookups;
 mod names;

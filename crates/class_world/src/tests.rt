@@ -13,7 +13,9 @@ use std::process::Abort;
 use std::test::Fail;
 
 const CLASS: u16 = 0x0021;
+
 const FINAL: u16 = 0x0031;
+
 const INTERFACE: u16 = 0x0600;
 
 fn class(
@@ -98,7 +100,10 @@ fn the_least_twin_counts(rt: HostRuntime) -> Result<(), Fail> {
     assert!(rt; heads.len() < 100);
     let names = index_names(alloc, &heads)?;
     let least = InternalName::from_slice(alloc, b"B")?;
-    assert_eq!(rt; check(alloc, &names, &heads, &[], false), Err(WorldFault::Duplicate(least)));
+    assert_eq!(rt;
+        check(alloc, &names, &heads, &[], false),
+        Err(WorldFault::Duplicate(least))
+    );
     Ok(())
 }
 

@@ -1,17 +1,19 @@
 //! The world of classes.
 
-ghost use Rattle.std.specs.Prelude.{◌≡◌, IfOk, IfErr, OnOk, ◌⊎◌};
+ghost use Rattle.std.specs.Prelude.{◌≡◌, ◌≤◌, length, IfOk, IfErr, OnOk, ◌⊎◌};
 ghost use Rattle.class_heads.specs.declared.fault.WorldFault.TheVariants.{Memory};
 ghost use Rattle.class_heads.specs.Faults.{world_heads, IsLibrary, IsSound, IsFirstFault};
+ghost use Rattle.class_world.specs.Tables.{IsWhole};
 
 use crate::building::{check, heads_of, supers_of};
+use crate::copies::copy_classes;
 use crate::lookups::in_order;
 use crate::names::index_names;
 use crate::numbers::{first_fields, first_methods};
 use class_file::ClassFile;
 use class_heads::{ClassHead, WorldFault};
 use sqlite_items::Items;
-use std::alloc::Global;
+use std::alloc::{AllocError, Global};
 use std::marker::Model;
 
 /// The classes that there are: those given as files, in their order, then others that are known by
@@ -67,6 +69,42 @@ impl World {
         Ok(World {
             heads,
             files: classes,
+            names,
+            supers,
+            first_fields,
+            first_methods,
+        })
+    }
+
+    /// The world of these heads and of the same files, where a program's classes were extended. The
+    /// heads of the classes that were given as files come first, in their order.
+    pub fn with_heads(&self, heads: Vec<ClassHead>) -> Result<World, AllocError>
+        requires given { length self.now.files ≤ length heads.items }
+        requires whole { IsWhole heads.items }
+        ensures heads { IfOk result (λ world. world.heads ≡ heads.items) }
+        ensures files { IfOk result (λ world. world.files ≡ self.now.files) }
+    {
+        let alloc = *self.heads.allocator();
+        if heads.len() > MOST {
+            return Err(AllocError);
+        }
+        let index = index_names(alloc, &heads)?;
+        let supers = match supers_of(alloc, &index, &heads) {
+            Ok(supers) => supers,
+            Err(WorldFault::Circle(_)) => unreachable!(),
+            Err(_) => return Err(AllocError),
+        };
+        let (Ok(first_fields), Ok(first_methods)) = (
+            first_fields(alloc, &heads),
+            first_methods(alloc, &heads),
+        ) else {
+            return Err(AllocError);
+        };
+        let names = in_order(alloc, &index)?;
+        let files = copy_classes(alloc, &self.files)?;
+        Ok(World {
+            heads,
+            files,
             names,
             supers,
             first_fields,

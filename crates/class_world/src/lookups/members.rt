@@ -1,6 +1,6 @@
 //! Members of classes by name and descriptor.
 
-ghost use Rattle.std.specs.Prelude.{◌≡◌, ◌+◌, ◌<◌, IfSome, length};
+ghost use Rattle.std.specs.Prelude.{◌≡◌, ◌<◌};
 ghost use Rattle.std.specs.List.{position_from, filter};
 ghost use Rattle.std.specs.Option.{option_map};
 ghost use Rattle.class_heads.specs.Searches as rule;

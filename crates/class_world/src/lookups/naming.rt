@@ -1,9 +1,9 @@
 //! A name as Java source writes it, against the names of classes.
 
-ghost use Rattle.std.specs.Prelude.{◌≡◌, ◌↔◌, ◌==◌, ◌&&◌, List, ℕ, if◌then◌else◌, nat_le, map, IsTrue, IfSome, IsNone, MatchOption};
+ghost use Rattle.std.specs.Prelude.{◌≡◌, ◌↔◌, ◌==◌, ◌&&◌, List, ℕ, if◌then◌else◌, nat_le, IsTrue, IfSome, IsNone};
 ghost use Rattle.std.specs.List.{Contains};
 ghost use Rattle.std.specs.Str.{bytes_eq};
-ghost use Rattle.aj_names.specs.Hierarchy.{dots, dollared, dotted, in_package, IsNamed};
+ghost use Rattle.aj_names.specs.Hierarchy.{dots, dollared, dotted, IsNamed};
 ghost use Rattle.class_heads.specs.Hierarchy.{class_names};
 ghost use Rattle.class_world.specs.Naming.{Splits};
 

@@ -12,7 +12,7 @@ use class_heads::ClassHead;
 
 /// No look-up takes memory.
 impl World {
-    ghost use Rattle.std.specs.Prelude.{◌≡◌, ◌<◌, length, slice_get};
+    ghost use Rattle.std.specs.Prelude.{◌≡◌, ◌<◌, length, slice_get, IfSome};
     ghost use Rattle.std.specs.List.{sum};
     ghost use Rattle.std.specs.Option.{option_map, option_copied};
     ghost use Rattle.class_heads.specs.Hierarchy.{place_of};
@@ -28,7 +28,8 @@ impl World {
 
     /// The class of that name.
     pub fn class(&self, name: &InternalName) -> Option<ClassId>
-        ensures { option_map (λ class. class.0) result ≡ place_of self.now.heads name.now }
+        ensures place { option_map (λ class. class.0) result ≡ place_of self.now.heads name.now }
+        ensures within { IfSome result (λ class. class.0 < length self.now.heads) }
     {
         let place = place_of(
             self.heads.as_slice(),
@@ -57,7 +58,8 @@ impl World {
     /// in order and theirs, then in the superclass (JVMS 5.4.3.2).
     pub fn find_field(&self, class: ClassId, member: &MemberName) -> Option<FieldId>
         requires { class.0 < length self.now.heads }
-        ensures { option_map (λ field. field.0) result ≡ option_map (number_of (field_counts self.now.heads)) (rule.find_field self.now.heads class.0 member.now) }
+        ensures number { option_map (λ field. field.0) result ≡ option_map (number_of (field_counts self.now.heads)) (rule.find_field self.now.heads class.0 member.now) }
+        ensures within { IfSome result (λ field. field.0 < sum (field_counts self.now.heads)) }
     {
         let table = self.supers[class.0 as usize].as_slice();
         let found = first_field(self.heads.as_slice(), table, member)?;
@@ -68,7 +70,8 @@ impl World {
     /// superinterfaces, depth first in order (JVMS 5.4.3.3, 5.4.3.4).
     pub fn find_method(&self, class: ClassId, member: &MemberName) -> Option<MethodId>
         requires { class.0 < length self.now.heads }
-        ensures { option_map (λ method. method.0) result ≡ option_map (number_of (method_counts self.now.heads)) (rule.find_method self.now.heads class.0 member.now) }
+        ensures number { option_map (λ method. method.0) result ≡ option_map (number_of (method_counts self.now.heads)) (rule.find_method self.now.heads class.0 member.now) }
+        ensures within { IfSome result (λ method. method.0 < sum (method_counts self.now.heads)) }
     {
         let table = self.supers[class.0 as usize].as_slice();
         let found = upward::find_method(
@@ -87,7 +90,8 @@ impl World {
     pub fn select(&self, runtime: ClassId, method: MethodId) -> Option<MethodId>
         requires runtime { runtime.0 < length self.now.heads }
         requires method { method.0 < sum (method_counts self.now.heads) }
-        ensures { (found : rule.MemberPlace) → IsNumbered (method_counts self.now.heads) method.0 found → option_map (λ m. m.0) result ≡ option_map (number_of (method_counts self.now.heads)) (rule.select self.now.heads runtime.0 found) }
+        ensures number { (found : rule.MemberPlace) → IsNumbered (method_counts self.now.heads) method.0 found → option_map (λ m. m.0) result ≡ option_map (number_of (method_counts self.now.heads)) (rule.select self.now.heads runtime.0 found) }
+        ensures within { IfSome result (λ m. m.0 < sum (method_counts self.now.heads)) }
     {
         let found = member_of(self.first_methods.as_slice(), method.0);
         let selected = upward::select(
@@ -102,7 +106,8 @@ impl World {
     /// The class that declares the method, and its position among the class's methods.
     pub fn method_at(&self, method: MethodId) -> (ClassId, u32)
         requires { method.0 < sum (method_counts self.now.heads) }
-        ensures { IsNumbered (method_counts self.now.heads) method.0 (rule.in_class result.0.0 result.1) }
+        ensures member { IsNumbered (method_counts self.now.heads) method.0 (rule.in_class result.0.0 result.1) }
+        ensures within { result.0.0 < length self.now.heads }
     {
         let found = member_of(self.first_methods.as_slice(), method.0);
         (ClassId(found.class), found.position as u32)
@@ -111,7 +116,8 @@ impl World {
     /// The class that declares the field, and its position among the class's fields.
     pub fn field_at(&self, field: FieldId) -> (ClassId, u32)
         requires { field.0 < sum (field_counts self.now.heads) }
-        ensures { IsNumbered (field_counts self.now.heads) field.0 (rule.in_class result.0.0 result.1) }
+        ensures member { IsNumbered (field_counts self.now.heads) field.0 (rule.in_class result.0.0 result.1) }
+        ensures within { result.0.0 < length self.now.heads }
     {
         let found = member_of(self.first_fields.as_slice(), field.0);
         (ClassId(found.class), found.position as u32)

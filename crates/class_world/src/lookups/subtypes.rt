@@ -1,6 +1,6 @@
 //! Whether one type is a subtype of another.
 
-ghost use Rattle.std.specs.Prelude.{◌≡◌, ◌<◌, length, false, nat_eq, slice_get};
+ghost use Rattle.std.specs.Prelude.{◌≡◌, ◌<◌, false, nat_eq, slice_get};
 ghost use Rattle.std.specs.List.{list_any};
 ghost use Rattle.std.specs.Option.{option_copied};
 ghost use Rattle.class_heads.specs.Hierarchy as rule;
@@ -151,8 +151,5 @@ pub(crate) fn supertype<'a>(
     }
     let class = place_of(heads, names, low)?;
     let place = supers[class as usize].get(index as usize)?;
-    match heads.get(*place as usize) {
-        Some(head) => Some(&head.name),
-        None => None,
-    }
+    Some(&heads[*place as usize].name)
 }

@@ -1,7 +1,7 @@
 //! Searches from a class upward.
 
 ghost use Rattle.std.specs.Prelude.{◌≡◌};
-ghost use Rattle.std.specs.Option.{option_map, option_or};
+ghost use Rattle.std.specs.Option.{option_map};
 ghost use Rattle.class_heads.specs.Searches as rule;
 ghost use Rattle.class_heads.specs.Hierarchy as classes;
 ghost use Rattle.class_world.specs.Names.{IsNameOrder};

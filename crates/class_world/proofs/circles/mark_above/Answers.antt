@@ -10,7 +10,7 @@ pub reaching-init : goal.reaching-init
 reaching-init c =
     let row : c.as_slice.result.now ≡ table_at c.args.steps.now c.args.place = c.as_slice.ensures ∙ get_or_read c.args.steps.now c.args.place c.index-steps-place.result c.requires.place c.index-steps-place.is _ in
     reaching_start c.args.steps.now c.args.place _ _ c.in_ok-append_new.ensures.marked
-      (c.in_ok-append_new.ensures.items ∙ ap (λ z. fold with_new z c.as_slice.result.now) c.new-reached.ensures.items ∙ ap (fold with_new _) row)
+    (c.in_ok-append_new.ensures.items ∙ ap (λ z. fold with_new z c.as_slice.result.now) c.new-reached.ensures.items ∙ ap (fold with_new _) row)
 
 pub reaching-preserved : goal.reaching-preserved
 reaching-preserved c =
@@ -21,7 +21,7 @@ reaching-preserved c =
     let known : next < length c.args.steps.now = let l = c.reaching.invariant.marked.within c.reaching.at 0 lt in omega (arith, l, is, room) in
     let row : c.as_slice-in-reaching.result.now ≡ table_at c.args.steps.now next = c.as_slice-in-reaching.ensures ∙ get_or_read c.args.steps.now next c.index-steps-next.result known c.index-steps-next.is _ in
     reaching_more c.args.steps.now c.args.place c.reaching.at c.reaching.seen _ c.reaching.reached.items _ c.reaching.invariant lt c.in_ok-append_new-2.ensures.marked
-      (c.in_ok-append_new-2.ensures.items ∙ ap (fold with_new c.reaching.reached.items) (row ∙ ap (table_at c.args.steps.now) is))
+    (c.in_ok-append_new-2.ensures.items ∙ ap (fold with_new c.reaching.reached.items) (row ∙ ap (table_at c.args.steps.now) is))
 
 pub returns : goal.returns
 returns c =

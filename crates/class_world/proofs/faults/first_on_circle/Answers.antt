@@ -9,7 +9,7 @@ pub loop-place-preserved : goal.loop-place-preserved
 loop-place-preserved c =
     let v = c.loop-place.invariant in
     let s = circle_step c.args.heads.now c.args.steps.now c.args.stuck.now c.loop-place.place-index c.loop-place.best c.better-best.result c.in_ok-circular.circular c.loop-place-test.true c.in_ok-circular.ensures c.better-best.ensures.best v.first v.off in
-    record { first = s.0; off = s.1; within = c.better-best.ensures.within; }
+    record { first = s.0; off = s.1; within = c.better-best.ensures.within }
 
 pub unreachable-requires : goal.unreachable-requires
 unreachable-requires c = circle_somewhere c.args.steps.now c.args.stuck.now c.loop-place.place-index c.loop-place-test.false c.requires.stuck (c.loop-place.invariant.off c.in-None.is)

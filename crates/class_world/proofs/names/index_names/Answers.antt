@@ -15,7 +15,7 @@ loop-place-preserved c =
     elim c.if-is_unknown.branch [
       | then-is_unknown+in_ok-copy+in_ok-insert w ↦ subst (HasPlaces (take (i + 1) heads)) (sym w.names-is)
           (index_new heads names w.insert.new.self i c.index-heads-place.result c.loop-place-test.true c.loop-place.invariant (sym c.is_unknown.ensures ∙ w.if-is_unknown.true)
-            (λ q. w.in_ok-insert.ensures.updates.0 q ∙ ap (λ k. cond (is_eq (slice_cmp nat_cmp k q)) (Some i) (indexed names q)) w.in_ok-copy.ensures))
+          (λ q. w.in_ok-insert.ensures.updates.0 q ∙ ap (λ k. cond (is_eq (slice_cmp nat_cmp k q)) (Some i) (indexed names q)) w.in_ok-copy.ensures))
       | else-is_unknown w ↦ subst (HasPlaces (take (i + 1) heads)) (sym w.names-is)
           (index_old heads names i c.index-heads-place.result c.loop-place-test.true c.loop-place.invariant (sym c.is_unknown.ensures ∙ w.if-is_unknown.false))
     ]

@@ -1,4 +1,4 @@
-use Rattle.std.proofs.Common.{[], ◌<◌, length, arith, sym, ap, ◌∙◌}
+use Rattle.std.proofs.Common.{[], ◌<◌, length, arith, sym, ◌∙◌}
 use Rattle.std.proofs.lemmas.List.{get_or_read}
 use Rattle.class_world.proofs.Positions.{place_of-within}
 use Rattle.class_world.proofs.Below.{below_by_table}

@@ -1,7 +1,7 @@
-use Rattle.std.proofs.Common.{◌≡◌, ℕ, suc, ◌+◌, ◌-◌, length, arith, sym, ap, ◌∙◌, subst}
-use Rattle.std.specs.Prelude.{Option, Some, None}
+use Rattle.std.proofs.Common.{◌≡◌, ℕ, suc, ◌+◌, ◌-◌, length, arith, sym, ◌∙◌, subst}
+use Rattle.std.specs.Prelude.{Option, Some}
 use Rattle.class_heads.specs.Hierarchy.{superclass_at}
-use Rattle.class_heads.specs.Searches.{MemberPlace, first_found}
+use Rattle.class_heads.specs.Searches.{first_found}
 use Rattle.class_world.specs.Found.{wanted_in}
 use Rattle.class_world.proofs.Upward.{walk_from, up_found, up_next, up_none}
 use Rattle.class_world.proofs.lookups.upward.first_upward.Goals as goal
