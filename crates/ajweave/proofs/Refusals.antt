@@ -14,7 +14,6 @@ use Rattle.weave_plan.specs.Worlds.{classes_of}
 use Rattle.ajweave.specs.declared.status.Refusal.{Refusal}
 use Rattle.ajweave.specs.declared.status.Refusal.TheVariants.{ManyFiles, BigFile, Class, World, NotBuilt}
 use Rattle.ajweave.specs.Answers.{most_names, in_folder, AreReadable, IsRefused, IsValid}
-
 use Rattle.ajweave.proofs.Worlds.{first_fault-same, sound-never_faulty}
 
 abbrev File : Type 0

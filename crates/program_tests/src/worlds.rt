@@ -201,7 +201,12 @@ fn circles(rt: HostRuntime) -> Result<(), Fail> {
 }
 
 /// Whether the class was written as it is.
-fn is_kept(alloc: Global, left: &Outcome, name: &str, class: &Declared<'_>) -> Result<bool, AllocError> {
+fn is_kept(
+    alloc: Global,
+    left: &Outcome,
+    name: &str,
+    class: &Declared<'_>,
+) -> Result<bool, AllocError> {
     let bytes = class_file(alloc, class)?;
     Ok(holds(left, name, bytes.as_slice()))
 }
@@ -229,13 +234,25 @@ fn beside_an_aspect(rt: HostRuntime) -> Result<(), Fail> {
     let alloc = rt.alloc();
     // A sound class of another form isn't built there.
     let mut files = files_of(alloc, &[class(b"A", b"java/lang/Exception")])?;
-    files.push((Name::from_str(alloc, "in/C.class")?, Vec::from_slice(alloc, &C)?))?;
-    files.push((Name::from_str(alloc, "in/T.aj")?, Vec::from_slice(alloc, ASPECT)?))?;
+    files.push((
+        Name::from_str(alloc, "in/C.class")?,
+        Vec::from_slice(alloc, &C)?,
+    ))?;
+    files.push((
+        Name::from_str(alloc, "in/T.aj")?,
+        Vec::from_slice(alloc, ASPECT)?,
+    ))?;
     let left = weave_files(alloc, files)?;
     assert!(rt; is_refused(&left, "refused: 0.class not-built\n", 3));
     // A fault of the classes comes before it.
-    let mut files = files_of(alloc, &[class(b"A", b"java/lang/Exception"), class(b"B", b"Gone")])?;
-    files.push((Name::from_str(alloc, "in/T.aj")?, Vec::from_slice(alloc, ASPECT)?))?;
+    let mut files = files_of(
+        alloc,
+        &[class(b"A", b"java/lang/Exception"), class(b"B", b"Gone")],
+    )?;
+    files.push((
+        Name::from_str(alloc, "in/T.aj")?,
+        Vec::from_slice(alloc, ASPECT)?,
+    ))?;
     let left = weave_files(alloc, files)?;
     assert!(rt; is_refused(&left, "refused: B missing-super Gone\n", 3));
     Ok(())
