@@ -2,7 +2,8 @@
 chapter 4) and the order of faults that README.md states, and sharing nothing with the proved reader.
 
 `first_fault(data)` gives what `weave` prints behind the file's name, or None where the bytes are a class
-file; `hierarchy(data)` gives (name, superclass, interfaces, whether a name has ajc$ in it) of a class file."""
+file; `world_fault(data)` what it prints behind `refused: ` of a class file whose class is alone beside the
+library, or None where that has no fault."""
 import struct
 
 
@@ -154,7 +155,7 @@ class ClassReader:
     def __init__(self, data):
         self.data = data
         self.pool = {}
-        self.has_generated = False
+        self.members = []
 
     def wrong(self, index):
         raise Fault(f"pool-ref {index}")
@@ -191,7 +192,7 @@ class ClassReader:
         if not 46 <= self.major <= 49:
             raise Fault(f"version {self.major}")
         self.read_pool(top)
-        top.u2()
+        self.flags = top.u2()
         this = top.u2()
         self.name = self.class_name(this)
         if self.name is None or not is_class_name(self.name):
@@ -265,9 +266,11 @@ class ClassReader:
 
     def read_member(self, top, method):
         flags = top.u2()
-        self.need_part(top.u2())
+        name = top.u2()
+        self.need_part(name)
         index = top.u2()
         type_ = self.text(index)
+        self.members.append((self.text(name), type_))
         if method is None:
             if type_ is None or not is_field_type(type_):
                 self.wrong(index)
@@ -491,13 +494,57 @@ def first_fault(data):
     return None
 
 
-def hierarchy(data):
-    reader = ClassReader(data)
-    reader.read()
-    names = []
+# The library, the classes that are there without a class file: the final ones, the interfaces, the others.
+FINAL = {b"java/lang/" + name for name in (b"Class", b"String", b"StringBuffer", b"StringBuilder", b"System", b"Integer", b"Long", b"Short", b"Byte", b"Character", b"Boolean", b"Float", b"Double")}
+INTERFACES = {b"java/lang/Runnable", b"java/lang/Cloneable", b"java/lang/Comparable", b"java/lang/CharSequence", b"java/io/Serializable"}
+OPEN = {b"java/lang/" + name for name in (
+    b"Object", b"Throwable", b"Exception", b"Error", b"RuntimeException", b"ClassNotFoundException", b"LinkageError", b"NoClassDefFoundError",
+    b"ArithmeticException", b"ArrayStoreException", b"ClassCastException", b"IllegalArgumentException", b"IllegalStateException",
+    b"IllegalMonitorStateException", b"IndexOutOfBoundsException", b"NegativeArraySizeException", b"NullPointerException",
+    b"UnsupportedOperationException", b"ArrayIndexOutOfBoundsException", b"StringIndexOutOfBoundsException")}
+OPEN |= {b"java/io/PrintStream", b"org/aspectj/lang/NoAspectBoundException"}
+
+
+def printed(name):
+    """A class's name as a refusal prints it."""
+    codes = b"".join(unit.to_bytes(2, "big") for unit in units(name))
+    return codes.decode("utf-16-be", "surrogatepass").replace("/", ".")
+
+
+def kept_names(reader):
+    """Whether ajc$ stands in a name of a class or in a name or descriptor of a member."""
+    names = [text for member in reader.members for text in member]
     for entry in reader.pool.values():
         if entry[0] == 7:
             names.append(reader.text(entry[1]))
         if entry[0] == 12:
             names += [reader.text(entry[1]), reader.text(entry[2])]
-    return reader.name, reader.above, reader.interfaces, any(b"ajc$" in name for name in names)
+    return any(b"ajc$" in name for name in names)
+
+
+def world_fault(data):
+    """What `weave` prints of a class file whose class is alone beside the library, or None."""
+    reader = ClassReader(data)
+    reader.read()
+    own, above = reader.name, reader.above
+    final, interface = bool(reader.flags & 0x10), bool(reader.flags & 0x200)
+    if own in FINAL | INTERFACES | OPEN:
+        return f"{printed(own)} duplicate"
+    if kept_names(reader):
+        return f"{printed(own)} reserved"
+    for name in [above, *reader.interfaces]:
+        if name != own and name not in FINAL | INTERFACES | OPEN:
+            return f"{printed(own)} missing-super {printed(name)}"
+    if above in FINAL | INTERFACES or above == own and (final or interface):
+        return f"{printed(own)} final-super"
+    if any(name not in INTERFACES and not (name == own and interface) for name in reader.interfaces):
+        return f"{printed(own)} final-super"
+    if own in [above, *reader.interfaces]:
+        return f"{printed(own)} circle"
+    return None
+
+
+def own_name(data):
+    reader = ClassReader(data)
+    reader.read()
+    return printed(reader.name).replace(".", "/")

@@ -6,3 +6,4 @@ pub mod Refusals
 pub mod Weaving
 pub mod Writing
 pub mod Sizes
+pub mod Worlds

@@ -10,11 +10,11 @@ use Rattle.aj_outside.specs.Files.{Files, names_under, put_each}
 use Rattle.jp_model.specs.Input.{IsFirst, is_big, IsFirstNotBuilt, Reads, inputs_in, is_input}
 use Rattle.weave_plan.specs.declared.planning.PlanFault.{PlanFault}
 use Rattle.weave_plan.specs.declared.planning.PlanFault.TheVariants as plan_fault
-use Rattle.weave_plan.specs.Faults.{IsFirstFault, is_faulty, IsFirstUnbuilt, AreTaken, AreRefused}
+use Rattle.weave_plan.specs.Faults.{IsFirstFault, HaveFirstFault, AreSound, IsFirstUnbuilt, AreTaken, AreRefused}
 use Rattle.weave_plan.specs.declared.planning.NamedFile.{NamedFile}
 use Rattle.weave_plan.specs.Plan.{IsPlan, files_of}
 use Rattle.ajweave.specs.declared.status.Refusal.{Refusal}
-use Rattle.ajweave.specs.declared.status.Refusal.TheVariants.{ManyFiles, BigFile, Class, NotBuilt}
+use Rattle.ajweave.specs.declared.status.Refusal.TheVariants.{ManyFiles, BigFile, Class, World, NotBuilt}
 use Rattle.ajweave.specs.declared.stop.Stop.{Stop}
 use Rattle.ajweave.specs.declared.stop.Stop.TheVariants as stop
 use Rattle.ajweave.specs.Words.{Folders}
@@ -170,6 +170,7 @@ big_ends : (folders : Folders) (held : Option Files) (inputs : List NamedFile) (
 big_ends folders held inputs ManyFiles i h = absurd h
 big_ends folders held inputs (BigFile name) i h = big_whole folders held inputs name i h
 big_ends folders held inputs (Class name fault) i h = absurd h
+big_ends folders held inputs (World fault) i h = absurd h
 big_ends folders held inputs (NotBuilt name) i h = absurd h
 
 pub sizes_end : (folders : Folders) (held held_now : Option Files) (inputs : List NamedFile) (fault : Stop) → IsInput folders.input held inputs → IsRefusal (IsBig folders.input (files_of inputs)) fault → held_now ≡ held → Ends (Err fault) folders held held_now
@@ -201,6 +202,7 @@ refused_whole folders None inputs refusal w h = tt
 refused_whole folders (Some files) inputs ManyFiles w h = absurd h
 refused_whole folders (Some files) inputs (BigFile name) w h = absurd h
 refused_whole folders (Some files) inputs (Class name fault) w h = (w.0, subst (λ (fs : Files). IsFirstFault fs (in_folder folders.input name) fault) w.1 h)
+refused_whole folders (Some files) inputs (World fault) w h = (w.0, subst (λ (fs : Files). HaveFirstFault fs fault) w.1 h)
 refused_whole folders (Some files) inputs (NotBuilt name) w h = (w.0, subst (λ (fs : Files). IsFirstUnbuilt fs (in_folder folders.input name)) w.1 h)
 
 pub refusal_ends : (folders : Folders) (held held_now : Option Files) (inputs : List NamedFile) (fault : Stop) → IsWhole folders.input held inputs → IsRefusal (IsInputRefusal folders.input (files_of inputs)) fault → held_now ≡ held → Ends (Err fault) folders held held_now
@@ -261,9 +263,9 @@ file_at_place files i file f stands =
     slice_get-map record_of files i ∙ ap (option_map record_of) (slice_get-get_or files i file (omega arith)) in
     ap (λ (g : List ℕ × List ℕ). g.0) (same_Some (record_of (get_or files i file)) f (sym here ∙ stands))
 
-named_so : (inputs : Files) (i : ℕ) (f : List ℕ × List ℕ) (name : List ℕ) → f.0 ≡ name → find is_faulty inputs ≡ None → IsFirstNotBuilt inputs i f → IsFirstUnbuilt inputs name
-named_so inputs i f name same read first =
-    subst (IsFirstUnbuilt inputs) same (record { read = read; first = record { place = i; bytes = f.1; first = first } })
+named_so : (inputs : Files) (i : ℕ) (f : List ℕ × List ℕ) (name : List ℕ) → f.0 ≡ name → AreSound inputs → IsFirstNotBuilt inputs i f → IsFirstUnbuilt inputs name
+named_so inputs i f name same sound first =
+    subst (IsFirstUnbuilt inputs) same (record { sound = sound; first = record { place = i; bytes = f.1; first = first } })
 
 pub unbuilt_at : (files : List NamedFile) (folder : List ℕ) (i : ℕ) (file : NamedFile) (name : List ℕ) (fault : PlanFault) → fault ≡ plan_fault.NotBuilt i → (get_or files i file).name ≡ in_folder folder name → AreRefused (files_of files) fault → IsFirstUnbuilt (files_of files) (in_folder folder name)
 unbuilt_at files folder i file name fault is named h =

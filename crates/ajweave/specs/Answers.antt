@@ -9,7 +9,7 @@ use Rattle.jp_model.specs.declared.first_aspect.FirstAspect.{FirstAspect}
 use Rattle.jp_model.specs.AspectText.{aspect_of}
 use Rattle.jp_model.specs.Input.{inputs_in, Reads, IsFirst, is_big}
 use Rattle.jp_model.specs.Headline.{Behaves, AreExtended, HoldsUntouched, HoldsDeclared, IsWeaving, outputs_of, with_outputs}
-use Rattle.weave_plan.specs.Faults.{IsFirstFault, IsFirstUnbuilt, AreTaken}
+use Rattle.weave_plan.specs.Faults.{IsFirstFault, HaveFirstFault, IsFirstUnbuilt, AreTaken}
 use Rattle.ajweave.specs.declared.status.Refusal.{Refusal}
 use Rattle.ajweave.specs.declared.status.Refusal.TheVariants as refusal
 use Rattle.ajweave.specs.declared.status.Status.{Status}
@@ -63,13 +63,15 @@ pub record AreReadable (folder : List ℕ) (files : Files) : Type 0 where
 
 -- The input is refused so, with a file without its folder. Of what is wrong the first counts: too many
 -- files, the first one by name that is too long, the first class file that is none, with its first fault,
--- and the first file that isn't of a form that is built.
+-- the first fault of the world of classes, and the first file that isn't of a form that is built.
 abbrev pub IsRefused : List ℕ → Files → Refusal → Type 0
 IsRefused folder files refusal.ManyFiles = most_names < length (names_under folder files)
 IsRefused folder files (refusal.BigFile name) =
     (length (names_under folder files) ≤ most_names) × IsFirst is_big (inputs_in folder files) (in_folder folder name)
 IsRefused folder files (refusal.Class name fault) =
     AreReadable folder files × IsFirstFault (inputs_in folder files) (in_folder folder name) fault
+IsRefused folder files (refusal.World fault) =
+    AreReadable folder files × HaveFirstFault (inputs_in folder files) fault
 IsRefused folder files (refusal.NotBuilt name) =
     AreReadable folder files × IsFirstUnbuilt (inputs_in folder files) (in_folder folder name)
 

@@ -3,13 +3,13 @@ use Rattle.std.specs.Prelude.{◌≡◌, ℕ, ◌<◌, ◌≤◌, ◌⊎◌, Lis
 use Rattle.std.specs.Option.{option_map, unwrap_or}
 use Rattle.aj_outside.specs.Files.{Files, AreFiles, file_at, names_under, AppendsPrefix}
 use Rattle.jp_model.specs.Input.{IsFirst, is_big}
-use Rattle.weave_plan.specs.Faults.{IsFirstFault, IsFirstUnbuilt}
+use Rattle.weave_plan.specs.Faults.{IsFirstFault, HaveFirstFault, IsFirstUnbuilt}
 use Rattle.aj_outside.specs.declared.shelves.ShelfFault.{ShelfFault}
 use Rattle.aj_outside.specs.declared.shelves.ShelfFault.TheVariants as shelf_fault
 use Rattle.ajweave.specs.declared.stop.Stop.{Stop}
 use Rattle.ajweave.specs.declared.stop.Stop.TheVariants as stop
 use Rattle.ajweave.specs.declared.status.Refusal.{Refusal}
-use Rattle.ajweave.specs.declared.status.Refusal.TheVariants.{ManyFiles, BigFile, Class, NotBuilt}
+use Rattle.ajweave.specs.declared.status.Refusal.TheVariants.{ManyFiles, BigFile, Class, World, NotBuilt}
 use Rattle.ajweave.specs.declared.status.Status.{Status}
 use Rattle.ajweave.specs.declared.status.Status.TheVariants as status
 use Rattle.ajweave.specs.Words.{Folders, refusal_line}
@@ -89,6 +89,7 @@ IsBig folder inputs _ = ⊥
 -- the refusal is that of these inputs, none of which is too long
 abbrev pub IsInputRefusal : List ℕ → Files → Refusal → Type 0
 IsInputRefusal folder inputs (Class name fault) = IsFirstFault inputs (in_folder folder name) fault
+IsInputRefusal folder inputs (World fault) = HaveFirstFault inputs fault
 IsInputRefusal folder inputs (NotBuilt name) = IsFirstUnbuilt inputs (in_folder folder name)
 IsInputRefusal folder inputs _ = ⊥
 

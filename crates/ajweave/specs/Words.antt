@@ -6,6 +6,10 @@ use Rattle.std.specs.Str.{bytes_eq}
 use Rattle.std.specs.Fmt.{decimal}
 use Rattle.class_format.specs.declared.fault.ClassFault.{ClassFault}
 use Rattle.class_format.specs.declared.fault.ClassFault.TheVariants as fault
+use Rattle.class_heads.specs.declared.fault.WorldFault.{WorldFault}
+use Rattle.class_heads.specs.declared.fault.WorldFault.TheVariants as world_fault
+use Rattle.aj_names.specs.Hierarchy.{dotted}
+use Rattle.jp_model.specs.Headline.{utf8_of}
 use Rattle.ajweave.specs.declared.status.Refusal.{Refusal}
 use Rattle.ajweave.specs.declared.status.Refusal.TheVariants as refusal
 
@@ -50,15 +54,30 @@ fault_words (fault.Code method pc) = codes "code " ++ (decimal method ++ (codes 
 -- no refusal's
 fault_words fault.Memory = codes "memory"
 
--- a refused file, without its folder, and why
-abbrev pub refused_file : List ℕ → List ℕ → List ℕ
-refused_file name why = name ++ (codes " " ++ why)
+-- what is refused, a class or a file without its folder, and why
+abbrev pub refused_name : List ℕ → List ℕ → List ℕ
+refused_name name why = name ++ (codes " " ++ why)
+
+-- the name of a class as it is printed: in UTF-8, with dots for `/`
+abbrev pub class_text : List ℕ → List ℕ
+class_text name = dotted (utf8_of name)
+
+-- the words of a fault of the world of classes
+abbrev pub world_words : WorldFault → List ℕ
+world_words (world_fault.Duplicate name) = refused_name (class_text name) (codes "duplicate")
+world_words (world_fault.Reserved class) = refused_name (class_text class) (codes "reserved")
+world_words (world_fault.MissingSuper class name) = refused_name (class_text class) (codes "missing-super " ++ class_text name)
+world_words (world_fault.FinalSuper class) = refused_name (class_text class) (codes "final-super")
+world_words (world_fault.Circle class) = refused_name (class_text class) (codes "circle")
+-- no refusal's
+world_words world_fault.Memory = codes "memory"
 
 abbrev pub refusal_words : Refusal → List ℕ
 refusal_words refusal.ManyFiles = codes "many-files"
-refusal_words (refusal.BigFile name) = refused_file name (codes "big-file")
-refusal_words (refusal.Class name why) = refused_file name (fault_words why)
-refusal_words (refusal.NotBuilt name) = refused_file name (codes "not-built")
+refusal_words (refusal.BigFile name) = refused_name name (codes "big-file")
+refusal_words (refusal.Class name why) = refused_name name (fault_words why)
+refusal_words (refusal.World why) = world_words why
+refusal_words (refusal.NotBuilt name) = refused_name name (codes "not-built")
 
 abbrev pub refusal_line : Refusal → List ℕ
 refusal_line refusal = codes "refused: " ++ (refusal_words refusal ++ 10 ∷ [])

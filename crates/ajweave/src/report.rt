@@ -1,16 +1,19 @@
 //! What is printed: the usage line, and the line of a refusal.
-ghost use Rattle.std.specs.Prelude.{◌≡◌, ◌≢◌, IfOk};
-ghost use Rattle.std.specs.String.{string_bytes};
+ghost use Rattle.std.specs.Prelude.{◌≡◌, ◌≢◌, ◌==◌, if◌then◌else◌, IfOk};
+ghost use Rattle.aj_names.specs.Hierarchy.{dotted};
 ghost use Rattle.aj_outside.specs.Counts.{ComesWithRise};
-ghost use Rattle.ajweave.specs.Words.{usage_line, refusal_line};
+ghost use Rattle.ajweave.specs.Words.{usage_line, refusal_line, refusal_words, world_words, refused_name, class_text};
 ghost use Rattle.ajweave.specs.Steps.{PrintsFor, Reports};
 
 use crate::status::{Refusal, Status};
 use crate::stop::Stop;
-use aj_outside::{Sink, SinkFault};
+use aj_names::InternalName;
+use aj_outside::{Name, Sink, SinkFault};
 use class_format::ClassFault;
+use class_world::WorldFault;
 use std::alloc::{AllocError, Global};
 use std::fmt;
+use weave_plan::utf8_of;
 
 const USAGE: &str =
     "usage: ajweave weave IN OUT | check IN | shadows IN | run IN ENTRY STEPS [SCRIPT] | sample SEED CLASSES\n";
@@ -43,7 +46,7 @@ fn refuse<O: Sink>(alloc: Global, refusal: Refusal, out: &mut O) -> Status
     ensures failed { ComesWithRise (result ≡ Status.PrintFault) (O.faults out.old) (O.faults out.new) }
 {
     match refusal_line(alloc, &refusal) {
-        Ok(line) => printed(out, line.as_bytes(), Status::Refused(refusal)),
+        Ok(line) => printed(out, line.as_slice(), Status::Refused(refusal)),
         Err(_) => Status::OutOfMemory,
     }
 }
@@ -62,35 +65,103 @@ fn printed<O: Sink>(out: &mut O, text: &[u8], answer: Status) -> Status
 }
 
 /// The line of a refusal.
-fn refusal_line(alloc: Global, refusal: &Refusal) -> Result<String, AllocError>
-    ensures { IfOk result (λ line. string_bytes line ≡ refusal_line refusal.now) }
+fn refusal_line(alloc: Global, refusal: &Refusal) -> Result<Vec<u8>, AllocError>
+    ensures { IfOk result (λ line. line.items ≡ refusal_line refusal.now) }
 {
-    format!(in alloc; "refused: {refusal}\n")
+    let mut line = Vec::from_slice(alloc, b"refused: ")?;
+    let words = refusal_words(alloc, refusal)?;
+    line.extend_from_slice(words.as_slice())?;
+    line.push(b'\n')?;
+    Ok(line)
 }
 
-impl fmt::Display for Refusal {
-    ghost use Rattle.std.specs.Prelude.{Some};
-    ghost use Rattle.ajweave.specs.Words.{refusal_words};
-
-    ghost output = { λ refusal. Some (refusal_words refusal) };
-
-    fn fmt<W: fmt::Write>(&self, f: &mut fmt::Formatter<W>) -> fmt::Result {
-        match self {
-            Refusal::ManyFiles => f.write_str("many-files"),
-            Refusal::BigFile(name) => {
-                let name = name.as_str();
-                write!(f, "{name} big-file")
-            }
-            Refusal::Class(name, fault) => {
-                let name = name.as_str();
-                let words = FaultWords(*fault);
-                write!(f, "{name} {words}")
-            }
-            Refusal::NotBuilt(name) => {
-                let name = name.as_str();
-                write!(f, "{name} not-built")
-            }
+/// The words of a refusal.
+fn refusal_words(alloc: Global, refusal: &Refusal) -> Result<Vec<u8>, AllocError>
+    ensures { IfOk result (λ words. words.items ≡ refusal_words refusal.now) }
+{
+    match refusal {
+        Refusal::ManyFiles => Vec::from_slice(alloc, b"many-files"),
+        Refusal::BigFile(name) => refused_file(alloc, name, b"big-file"),
+        Refusal::Class(name, fault) => {
+            let words = FaultWords(*fault);
+            let words = format!(in alloc; "{words}")?;
+            refused_file(alloc, name, words.as_bytes())
         }
+        Refusal::World(fault) => world_words(alloc, fault),
+        Refusal::NotBuilt(name) => refused_file(alloc, name, b"not-built"),
+    }
+}
+
+/// The words of a fault of the world of classes.
+fn world_words(alloc: Global, fault: &WorldFault) -> Result<Vec<u8>, AllocError>
+    ensures { IfOk result (λ words. words.items ≡ world_words fault.now) }
+{
+    match fault {
+        WorldFault::Duplicate(name) => refused_class(alloc, name, b"duplicate"),
+        WorldFault::Reserved(class) => refused_class(alloc, class, b"reserved"),
+        WorldFault::MissingSuper { class, name } => {
+            let mut why = Vec::from_slice(alloc, b"missing-super ")?;
+            let name = class_text(alloc, name)?;
+            why.extend_from_slice(name.as_slice())?;
+            refused_class(alloc, class, why.as_slice())
+        }
+        WorldFault::FinalSuper(class) => refused_class(alloc, class, b"final-super"),
+        WorldFault::Circle(class) => refused_class(alloc, class, b"circle"),
+        WorldFault::Memory => Vec::from_slice(alloc, b"memory"),
+    }
+}
+
+/// A refused file, and why.
+fn refused_file(alloc: Global, name: &Name, why: &[u8]) -> Result<Vec<u8>, AllocError>
+    ensures { IfOk result (λ words. words.items ≡ refused_name name.now why.now) }
+{
+    let name = name.as_str();
+    refused_name(alloc, name.as_bytes(), why)
+}
+
+/// A refused class, and why.
+fn refused_class(alloc: Global, class: &InternalName, why: &[u8]) -> Result<Vec<u8>, AllocError>
+    ensures { IfOk result (λ words. words.items ≡ refused_name (class_text class.now) why.now) }
+{
+    let name = class_text(alloc, class)?;
+    refused_name(alloc, name.as_slice(), why)
+}
+
+/// What is refused, and why.
+fn refused_name(alloc: Global, name: &[u8], why: &[u8]) -> Result<Vec<u8>, AllocError>
+    ensures { IfOk result (λ words. words.items ≡ refused_name name.now why.now) }
+{
+    let mut words = Vec::from_slice(alloc, name)?;
+    words.push(b' ')?;
+    words.extend_from_slice(why)?;
+    Ok(words)
+}
+
+/// The name of a class as it is printed: in UTF-8, with dots for `/`.
+fn class_text(alloc: Global, name: &InternalName) -> Result<Vec<u8>, AllocError>
+    ensures { IfOk result (λ text. text.items ≡ class_text name.now) }
+{
+    let text = utf8_of(alloc, name.as_slice())?;
+    dotted(alloc, text.as_slice())
+}
+
+/// A text with dots for `/`.
+fn dotted(alloc: Global, text: &[u8]) -> Result<Vec<u8>, AllocError>
+    ensures { IfOk result (λ dots. dots.items ≡ dotted text.now) }
+{
+    let mut dots = Vec::new(alloc);
+    for byte in text {
+        dots.push(dotted_byte(*byte))?;
+    }
+    Ok(dots)
+}
+
+fn dotted_byte(byte: u8) -> u8
+    ensures { result ≡ (if byte == 47 then 46 else byte) }
+{
+    match byte {
+        b'/' => b'.',
+        _ => byte,
     }
 }
 

@@ -1,5 +1,6 @@
 use aj_outside::Name;
 use class_format::ClassFault;
+use class_world::WorldFault;
 
 /// The one thing that is wrong with the input. A file is named without the folder IN.
 #[derive(Debug, Drop)]
@@ -10,6 +11,8 @@ pub enum Refusal {
     BigFile(Name),
     /// This class file is the first that is none, with the first fault in it.
     Class(Name, ClassFault),
+    /// The classes have this first fault as a world.
+    World(WorldFault),
     /// This file is the first that is not of a form that is built.
     NotBuilt(Name),
 }

@@ -72,6 +72,7 @@ fn refused(alloc: Global, folder: &str, inputs: &[NamedFile], fault: PlanFault) 
                 Err(_) => Stop::Memory,
             }
         }
+        PlanFault::World(fault) => Stop::Refused(Refusal::World(fault)),
         PlanFault::NotBuilt(place) => match name_within(alloc, folder, &inputs[place].name) {
             Ok(name) => Stop::Refused(Refusal::NotBuilt(name)),
             Err(_) => Stop::Memory,

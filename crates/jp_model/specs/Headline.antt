@@ -1,5 +1,5 @@
 -- What weaving promises of the classes that it writes.
-use Rattle.std.specs.Prelude.{◌≡◌, ◌≢◌, ℕ, ◌+◌, ◌-◌, ◌*◌, ◌/◌, ◌%◌, ◌==◌, ◌&&◌, if◌then◌else◌, nat_le, not, Bool, true, false, IsTrue, List, [], ◌∷◌, ◌++◌, length, map, codes, Option, Some, None, slice_get, Ok}
+use Rattle.std.specs.Prelude.{◌≡◌, ◌≢◌, ℕ, ◌+◌, ◌-◌, ◌*◌, ◌/◌, ◌%◌, ◌==◌, ◌&&◌, if◌then◌else◌, not, Bool, true, false, IsTrue, List, [], ◌∷◌, ◌++◌, length, map, codes, Option, Some, None, slice_get, Ok}
 use Rattle.std.specs.List.{filter, AllZip, AllByRecursion, starts_with}
 use Rattle.event_machine.specs.Equivalent.{Equivalent}
 use Rattle.event_machine.specs.Observation.{IsPrefix}
@@ -12,6 +12,7 @@ use Rattle.class_file.specs.declared.types.Attribute.{Attribute}
 use Rattle.class_file.specs.declared.types.Content.{Content}
 use Rattle.class_file.specs.declared.types.Content.TheVariants as content
 use Rattle.class_file.specs.Spelling.{spelling}
+use Rattle.class_file.specs.Text.{within}
 use Rattle.class_file.specs.WellFormed.{is_well_formed}
 use Rattle.class_file.specs.Pool.{Reference, this_name, super_name, text_at}
 use Rattle.jp_model.specs.Values.{object_class}
@@ -65,12 +66,24 @@ four_bytes high low =
     let n = 0x10000 + (high * 1024 + low) in
     (0xF0 + n / 0x40000) ∷ (0x80 + (n / 0x1000) % 64) ∷ (0x80 + (n / 64) % 64) ∷ (0x80 + n % 64) ∷ []
 
--- A name in UTF-8, from its modified UTF-8 (JVMS 4.4.7): the surrogates of a name stand in pairs, six
--- bytes that begin with ED A0 or higher.
+-- three bytes are a surrogate, whose second one is one of the 16 from the least one on
+abbrev pub is_surrogate : ℕ → ℕ → ℕ → ℕ → Bool
+is_surrogate least a b c = a == 0xED && (within least (least + 16) b && within 0x80 0xC0 c)
+
+-- six bytes are a high surrogate and a low one
+abbrev pub is_pair : ℕ → ℕ → ℕ → ℕ → ℕ → ℕ → Bool
+is_pair a b c d e f = is_surrogate 0xA0 a b c && is_surrogate 0xB0 d e f
+
+-- the ten bits that a surrogate holds in its last two bytes
+abbrev pub surrogate_bits : ℕ → ℕ → ℕ → ℕ
+surrogate_bits least b c = (b - least) * 64 + (c - 0x80)
+
+-- A name in UTF-8, from its modified UTF-8 (JVMS 4.4.7): each pair of surrogates becomes the character
+-- that it stands for, and each other byte stays.
 abbrev pub utf8_of : List ℕ → List ℕ
 utf8_of (a ∷ b ∷ c ∷ d ∷ e ∷ f ∷ rest) =
-    if a == 0xED && nat_le 0xA0 b
-    then four_bytes ((b - 0xA0) * 64 + (c - 0x80)) ((e - 0xB0) * 64 + (f - 0x80)) ++ utf8_of rest
+    if is_pair a b c d e f
+    then four_bytes (surrogate_bits 0xA0 b c) (surrogate_bits 0xB0 e f) ++ utf8_of rest
     else a ∷ utf8_of (b ∷ c ∷ d ∷ e ∷ f ∷ rest)
 utf8_of bytes = bytes
 

@@ -1,22 +1,15 @@
 -- What the files of a folder say: classes and aspects, and the first file that is not of a form that
 -- is built.
-use Rattle.std.specs.Prelude.{◌≡◌, ℕ, ◌<◌, ◌&&◌, ◌||◌, not, if◌then◌else◌, nat_eq, nat_le, nat_lt, Bool, true, false, IsTrue, MatchBool, List, [], ◌∷◌, length, take, codes, Some, slice_get}
-use Rattle.std.specs.List.{filter, find, list_all, list_any, ends_with}
-use Rattle.std.specs.Str.{bytes_eq}
+use Rattle.std.specs.Prelude.{◌≡◌, ℕ, ◌<◌, ◌&&◌, ◌||◌, not, nat_eq, nat_le, nat_lt, Bool, true, false, IsTrue, MatchBool, List, [], ◌∷◌, length, take, codes, Some, slice_get}
+use Rattle.std.specs.List.{filter, find, list_any, ends_with}
 use Rattle.aj_outside.specs.Files.{Files, is_under}
-use Rattle.class_file.specs.declared.pool.PoolEntry.{PoolEntry}
-use Rattle.class_file.specs.declared.pool.PoolEntry.TheVariants as entry
 use Rattle.class_file.specs.declared.types.ClassFile.{ClassFile}
-use Rattle.class_file.specs.declared.types.Member.{Member}
 use Rattle.class_file.specs.Spelling.{spelling}
-use Rattle.class_file.specs.Pool.{text_at, this_name, super_name}
-use Rattle.class_file.specs.Sound.{is_some_that}
+use Rattle.class_file.specs.Pool.{this_name}
 use Rattle.class_file.specs.WellFormed.{is_well_formed}
 use Rattle.class_file.specs.FirstForm.{is_first_form}
 use Rattle.jp_model.specs.declared.first_aspect.FirstAspect.{FirstAspect}
 use Rattle.jp_model.specs.AspectText.{SpellsAspect}
-use Rattle.jp_model.specs.Values.{object_class}
-use Rattle.jp_model.specs.Headline.{is_generated}
 
 abbrev pub is_class_file : List ℕ → Bool
 is_class_file name = ends_with nat_eq name (codes ".class")
@@ -64,30 +57,6 @@ is_big file = nat_lt 16777216 (length file.1)
 abbrev pub has_aspects : Files → Bool
 has_aspects files = list_any (λ f. is_other_file f.0) files
 
--- ---- classes that stay as they are where there is no aspect
-
--- the text of the index is no name that is left to generated members
-abbrev pub is_free : List PoolEntry → ℕ → Bool
-is_free pool index = not (is_generated (text_at pool index))
-
-abbrev pub entry_is_free : List PoolEntry → PoolEntry → Bool
-entry_is_free pool (entry.Class name) = is_free pool name
-entry_is_free pool (entry.NameAndType name descriptor) = is_free pool name && is_free pool descriptor
-entry_is_free pool _ = true
-
-abbrev pub member_is_free : List PoolEntry → Member → Bool
-member_is_free pool m = is_free pool m.name && is_free pool m.descriptor
-
--- no class, member or descriptor that it names or declares has `ajc$` in it
-abbrev pub has_free_names : ClassFile → Bool
-has_free_names c =
-    list_all (entry_is_free c.pool) c.pool && (list_all (member_is_free c.pool) c.fields && list_all (member_is_free c.pool) c.methods)
-
--- a direct subclass of Object without interfaces, and with free names
-abbrev pub is_plain_class : ClassFile → Bool
-is_plain_class c =
-    is_some_that (bytes_eq object_class) (super_name c) && (nat_eq (length c.interfaces) 0 && has_free_names c)
-
 -- ---- what is built
 
 -- a class file among these has a class of this name
@@ -101,16 +70,15 @@ pub record HasClassNamed (files : Files) (name : List ℕ) : Type 0 where
   pub named : this_name class ≡ Some name
 
 -- Beside an aspect a class is built where it is of the first form and its file has at most 65,536 bytes,
--- and without one where it is plain.
+-- and without one it is built anyway.
 abbrev pub has_built_form : Bool → List ℕ → ClassFile → Bool
-has_built_form aspects bytes c = if aspects then is_first_form c && nat_le (length bytes) 65536 else is_plain_class c
+has_built_form aspects bytes c = not aspects || (is_first_form c && nat_le (length bytes) 65536)
 
--- The class file at a place is built: its class is of the form, and no earlier one has its name.
-pub record IsBuiltClass (files : Files) (place : ℕ) (bytes : List ℕ) : Type 0 where
+-- the class file is built: it says a class of the form
+pub record IsBuiltClass (files : Files) (bytes : List ℕ) : Type 0 where
   pub class : ClassFile
   pub spelled : SpellsClass bytes class
   pub form : IsTrue (has_built_form (has_aspects files) bytes class)
-  pub own_name : (name : List ℕ) → this_name class ≡ Some name → ¬ (HasClassNamed (take place files) name)
 
 -- The aspect file at a place is built: it is the first one, its name is that of no class, and no class
 -- hides java.lang's System from its body.
@@ -122,7 +90,7 @@ pub record IsBuiltAspect (files : Files) (place : ℕ) (bytes : List ℕ) : Type
   pub system : ¬ (HasClassNamed files (codes "System"))
 
 abbrev pub IsBuiltAt : Files → ℕ → (List ℕ × List ℕ) → Type 0
-IsBuiltAt files place file = MatchBool (is_class_file file.0) (IsBuiltClass files place file.1) (IsBuiltAspect files place file.1)
+IsBuiltAt files place file = MatchBool (is_class_file file.0) (IsBuiltClass files file.1) (IsBuiltAspect files place file.1)
 
 -- each file is built
 abbrev pub AllBuilt : Files → Type 0

@@ -11,3 +11,5 @@ mod runs;
 mod tests;
 #[cfg(test)]
 mod units;
+#[cfg(test)]
+mod worlds;

@@ -91,7 +91,7 @@ fn each_cut_and_a_byte_more(rt: HostRuntime) -> Result<(), Fail> {
     Ok(())
 }
 
-/// Whether C with this byte at this place is woven or refused, and a refusal names it and writes
+/// Whether C with this byte at this place is woven or refused, and a refusal prints one line and writes
 /// nothing.
 fn is_answered(alloc: Global, place: usize, byte: u8) -> Result<bool, AllocError> {
     let left = weave_changed(alloc, &[(place, byte)])?;
@@ -99,7 +99,7 @@ fn is_answered(alloc: Global, place: usize, byte: u8) -> Result<bool, AllocError
     let status = left.status;
     Ok(match status {
         0 => left.shelf.len() == 2 && printed.is_empty(),
-        1 => left.shelf.len() == 1 && printed.starts_with(b"refused: a/C.class "),
+        1 => left.shelf.len() == 1 && printed.starts_with(b"refused: "),
         _ => false,
     })
 }
@@ -114,26 +114,37 @@ fn each_changed_byte_is_answered(rt: HostRuntime) -> Result<(), Fail> {
 }
 
 #[test]
-fn classes_that_are_not_built(rt: HostRuntime) -> Result<(), Fail> {
-    let line = "refused: a/C.class not-built\n";
-    let cases: [&[(usize, u8)]; 5] = [
+fn faults_of_one_class(rt: HostRuntime) -> Result<(), Fail> {
+    let cases: [Case<'_>; 5] = [
         // A class that extends itself.
-        &[(212, 2)],
+        (&[(212, 2)], "refused: C circle\n"),
         // `ajc$` in the name of a method, of a class that is named, of a member and in a descriptor.
-        &[(203, b'a'), (204, b'j'), (205, b'c'), (206, b'$')],
-        &[(77, b'a'), (78, b'j'), (79, b'c'), (80, b'$')],
-        &[(105, b'a'), (106, b'j'), (107, b'c'), (108, b'$')],
-        &[(49, b'a'), (50, b'j'), (51, b'c'), (52, b'$')],
+        (
+            &[(203, b'a'), (204, b'j'), (205, b'c'), (206, b'$')],
+            "refused: C reserved\n",
+        ),
+        (
+            &[(77, b'a'), (78, b'j'), (79, b'c'), (80, b'$')],
+            "refused: C reserved\n",
+        ),
+        (
+            &[(105, b'a'), (106, b'j'), (107, b'c'), (108, b'$')],
+            "refused: C reserved\n",
+        ),
+        (
+            &[(49, b'a'), (50, b'j'), (51, b'c'), (52, b'$')],
+            "refused: C reserved\n",
+        ),
     ];
-    for changes in cases {
-        assert!(rt; names_fault(rt.alloc(), (changes, line))?);
+    for case in cases {
+        assert!(rt; names_fault(rt.alloc(), case)?, "{}", case.1);
     }
-    // A class with an interface.
+    // java.lang.System as an interface.
     let mut class = Vec::from_slice(rt.alloc(), &C[..213])?;
     class.extend_from_slice(&[0, 1, 0, 9])?;
     class.extend_from_slice(&C[215..])?;
     let left = weave(rt.alloc(), &[("in/C.class", class.as_slice())])?;
-    assert!(rt; is_refused(&left, "refused: C.class not-built\n", 1));
+    assert!(rt; is_refused(&left, "refused: C final-super\n", 1));
     Ok(())
 }
 
@@ -181,9 +192,7 @@ fn names(alloc: Global, named: &[(&str, &[u8])], line: &str) -> Result<bool, All
 #[test]
 fn the_first_file_that_is_not_built(rt: HostRuntime) -> Result<(), Fail> {
     let alloc = rt.alloc();
-    // Two classes of one name, two aspects, and an aspect with the name of a class.
-    let named: [(&str, &[u8]); 3] = [("in/A.class", &C), ("in/B.class", &C), ("in/C.class", &D)];
-    assert!(rt; names(alloc, &named, "refused: B.class not-built\n")?);
+    // Two aspects, and an aspect with the name of a class.
     let named: [(&str, &[u8]); 2] = [("in/C.aj", ASPECT), ("in/D.aj", ASPECT)];
     assert!(rt; names(alloc, &named, "refused: D.aj not-built\n")?);
     let named: [(&str, &[u8]); 2] = [
@@ -207,10 +216,10 @@ fn the_first_class_file_that_is_none(rt: HostRuntime) -> Result<(), Fail> {
     // A class that extends itself.
     let mut own = C;
     own[212] = 2;
-    // It comes before files that aren't built.
+    // It comes before faults of the classes and files that aren't built.
     let named: [(&str, &[u8]); 3] = [("in/A.class", &own), ("in/B.aj", b""), ("in/C.class", &bad)];
     assert!(rt; names(alloc, &named, "refused: C.class magic\n")?);
-    assert!(rt; names(alloc, &named[..2], "refused: A.class not-built\n")?);
+    assert!(rt; names(alloc, &named[..2], "refused: C circle\n")?);
     // Of two the first is named.
     let named: [(&str, &[u8]); 2] = [("in/A.class", &C[..9]), ("in/B.class", &bad)];
     assert!(rt; names(alloc, &named, "refused: A.class truncated 9\n")?);

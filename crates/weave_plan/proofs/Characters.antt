@@ -1,5 +1,5 @@
 -- The bytes of a character in UTF-8.
-use Rattle.std.proofs.Common.{◌≡◌, ℕ, ◌+◌, ◌-◌, ◌*◌, ◌/◌, ◌%◌, ◌<◌, ◌≤◌, ◌⊎◌, inl, inr, Bool, true, false, cond, leb, ltb, ◌&&◌, List, [], ◌∷◌, ◌++◌, IsUtf8, refl, sym, ap, ap₂, subst, ◌∙◌, arith}
+use Rattle.std.proofs.Common.{◌≡◌, ℕ, ◌+◌, ◌-◌, ◌*◌, ◌/◌, ◌%◌, ◌<◌, ◌≤◌, inl, inr, Bool, true, cond, leb, ltb, ◌&&◌, List, [], ◌∷◌, ◌++◌, IsUtf8, ap, ap₂, subst, ◌∙◌, arith}
 use Rattle.std.proofs.lemmas.Bool.{lt-ltb, le-ltb, le-leb, cases_lt, cases_eq}
 use Rattle.std.proofs.lemmas.Str.{IsUtf8-encode, IsUtf8-append, encode_ascii}
 use Rattle.std.proofs.Math.Utf8.{scalar, encode, low_scalar}

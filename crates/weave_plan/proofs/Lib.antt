@@ -1,5 +1,4 @@
 pub mod Lists
-pub mod Named
 pub mod Read
 pub mod Placed
 pub mod Decoded
@@ -7,7 +6,9 @@ pub mod Characters
 pub mod Fronts
 pub mod Utf8
 pub mod Classes
-pub mod Generated
+pub mod Cases
+pub mod SoundNames
+pub mod SoundClasses
 pub mod Steps
 pub mod Refused
 pub mod Weavings

@@ -1,5 +1,5 @@
 -- What the files are, up to a place.
-use Rattle.std.proofs.Common.{◌≡◌, ℕ, ◌+◌, ◌<◌, Bool, true, false, ◌&&◌, List, [], ◌∷◌, ◌++◌, length, take, drop, map, get_or, Option, Some, None, Result, Ok, Err, refl, sym, ap, subst, ◌∙◌, arith, append-nil}
+use Rattle.std.proofs.Common.{◌≡◌, ℕ, ◌+◌, ◌<◌, Bool, true, false, ◌&&◌, List, [], ◌∷◌, ◌++◌, length, take, drop, get_or, Option, Some, None, Result, Err, refl, sym, ap, subst, ◌∙◌, arith, append-nil}
 use Rattle.std.specs.Prelude.{slice_get, MatchBool, IfErr}
 use Rattle.std.specs.List.{AllZip, find}
 use Rattle.std.specs.Result.{is_err}
@@ -69,6 +69,7 @@ refused_at files i file (plan_fault.Class at fault) lt e none h =
         read = h.2;
       },
     )
+refused_at files i file (plan_fault.World fault) lt e none h = absurd h
 refused_at files i file (plan_fault.NotBuilt at) lt e none h = absurd h
 refused_at files i file plan_fault.Memory lt e none h = tt
 

@@ -1,109 +1,39 @@
 -- The first file that isn't built, and what all files say where each is built.
-use Rattle.std.proofs.Common.{◌≡◌, ◌≢◌, ℕ, zero, suc, ◌+◌, ◌<◌, ◌≤◌, Bool, true, false, cond, ◌&&◌, ◌||◌, not, List, [], ◌∷◌, ◌++◌, length, take, map, Option, Some, None, refl, sym, ap, ap₂, subst, ◌∙◌, arith, ◌⊎◌, inl, inr, append_assoc, length-append}
-use Rattle.std.specs.Prelude.{codes, slice_get, MatchBool, IsTrue, nat_le}
-use Rattle.std.specs.List.{AllZip, AllByRecursion, list_any, find}
+use Rattle.std.proofs.Common.{◌≡◌, ◌≢◌, ℕ, zero, suc, ◌+◌, ◌<◌, Bool, true, false, cond, ◌||◌, not, List, [], ◌∷◌, ◌++◌, length, take, map, Option, Some, None, refl, sym, ap, ap₂, subst, ◌∙◌, arith, inl, inr, append_assoc, length-append}
+use Rattle.std.specs.Prelude.{codes, slice_get, IsTrue, nat_le}
+use Rattle.std.specs.List.{AllZip, AllByRecursion}
 use Rattle.std.specs.Option.{option_to_list}
 use Rattle.std.specs.Str.{bytes_eq}
 use Rattle.std.proofs.Math.Logic.{⊎_elim}
 use Rattle.std.proofs.Math.Seq.{take-append_seam}
-use Rattle.std.proofs.lemmas.Bool.{and_parts, and_from, or_cases, or_left, or_right, cases_lt, cases_eq, false_from_ne_true, true≢false}
+use Rattle.std.proofs.lemmas.Bool.{and_parts, or_cases, or_left, or_right, cases_lt, true≢false}
 use Rattle.std.proofs.lemmas.List.Folds.{list_any-append}
 use Rattle.std.proofs.lemmas.Option.{slice_get_within}
 use Rattle.std.proofs.lemmas.Slice.Eq.{bytes_eq-Decides}
 use Rattle.aj_outside.specs.Files.{Files}
+use Rattle.boot_library.specs.Heads.{library_heads}
 use Rattle.class_file.specs.declared.types.ClassFile.{ClassFile}
 use Rattle.class_file.specs.Pool.{this_name}
 use Rattle.class_file.specs.Sound.{is_some_that}
-use Rattle.class_file.specs.Text.{is_class_name}
-use Rattle.class_file.specs.WellFormed.{is_well_formed}
 use Rattle.class_file.specs.FirstForm.{is_first_form}
 use Rattle.jp_model.specs.declared.first_aspect.FirstAspect.{FirstAspect}
 use Rattle.jp_model.specs.AspectText.{is_first_aspect, aspect_of}
-use Rattle.jp_model.specs.Input.{is_class_file, is_other_file, has_aspects, has_built_form, is_plain_class, SpellsClass, Reads, HasClassNamed, IsBuiltClass, IsBuiltAspect, IsBuiltAt, AllBuilt, IsFirstNotBuilt}
+use Rattle.jp_model.specs.Input.{is_class_file, is_other_file, has_aspects, has_built_form, SpellsClass, Reads, HasClassNamed, IsBuiltClass, IsBuiltAspect, IsBuiltAt, AllBuilt, IsFirstNotBuilt}
 use Rattle.jp_model.specs.Headline.{AreApart, IsWeaving}
 use Rattle.weave_plan.specs.declared.parsing.Parsed.{Parsed}
 use Rattle.weave_plan.specs.declared.parsing.Parsed.TheVariants.{Class, Aspect, Other}
-use Rattle.weave_plan.specs.Faults.{is_faulty, AreTaken}
-use Rattle.weave_plan.specs.Parsed.{SpellsOneClass, SpellsOneAspect, SpellsNoAspect, IsParsedClass, IsParsedAspect, IsParsed, IsFormed, is_class_named, has_class_named, is_aspect, has_aspect, has_form, is_new, is_hidden, is_built, first_refused, classes_in, aspects_in, last_of}
-use Rattle.weave_plan.specs.Fit.{Fit, FitAspect, IsWoven}
+use Rattle.weave_plan.specs.Faults.{AreSound, AreTaken}
+use Rattle.weave_plan.specs.Parsed.{IsParsed, is_class_named, has_class_named, is_aspect, has_aspect, has_form, is_hidden, is_built, first_refused, classes_in, aspects_in, last_of}
+use Rattle.weave_plan.specs.Fit.{Fit, IsWoven}
 use Rattle.weave_plan.specs.Plan.{IsPlan}
+use Rattle.weave_plan.specs.Worlds as world
+use Rattle.weave_plan.proofs.SoundNames.{sound-apart}
 use Rattle.weave_plan.proofs.Lists.{slice_get_behind, zip_more}
-use Rattle.weave_plan.proofs.Classes.{is_named_of}
+use Rattle.weave_plan.proofs.Cases.{match_true, match_false, of_true, of_false, or_false, not_only, not_not, cond_none, some_same, some_of, class_of, aspect_in, other_in}
+use Rattle.weave_plan.proofs.SoundClasses.{classes_formed, sound_free}
 
 abbrev File : Type 0
 File = List ℕ × List ℕ
-
--- ---- cases
-
-match_true : (P Q : Type 0) (b : Bool) → b ≡ true → P → MatchBool b P Q
-match_true P Q true e h = h
-match_true P Q false e h = absurd cc
-
-match_false : (P Q : Type 0) (b : Bool) → b ≡ false → Q → MatchBool b P Q
-match_false P Q true e h = absurd cc
-match_false P Q false e h = h
-
-of_true : (P Q : Type 0) (b : Bool) → b ≡ true → MatchBool b P Q → P
-of_true P Q true e h = h
-of_true P Q false e h = absurd cc
-
-of_false : (P Q : Type 0) (b : Bool) → b ≡ false → MatchBool b P Q → Q
-of_false P Q true e h = absurd cc
-of_false P Q false e h = h
-
-true_only : (P : Type 0) (b : Bool) → MatchBool b P ⊥ → (b ≡ true) × P
-true_only P true h = (refl, h)
-true_only P false h = absurd h
-
-false_only : (P : Type 0) (b : Bool) → MatchBool b ⊥ P → (b ≡ false) × P
-false_only P true h = absurd h
-false_only P false h = (refl, h)
-
-or_false : (x y : Bool) → (x || y) ≡ false → (x ≡ false) × (y ≡ false)
-or_false true y h = absurd cc
-or_false false y h = (refl, h)
-
-not_only : (x : Bool) → not x ≡ true → x ≡ false
-not_only true h = absurd cc
-not_only false h = refl
-
-not_not : (x : Bool) → not x ≡ false → x ≡ true
-not_not true h = refl
-not_not false h = absurd cc
-
-cond_none : {X : Type 0} (b : Bool) (x : X) (o : Option X) → cond b o (Some x) ≡ None → (b ≡ true) × (o ≡ None)
-cond_none true x o h = (refl, h)
-cond_none false x o h = absurd cc
-
-some_same : {X : Type 0} (x y : X) → Some x ≡ Some y → x ≡ y
-some_same x y h = cc
-
-some_of : {X : Type 0} (test : X → Bool) (o : Option X) → is_some_that test o ≡ true → (x : X) × (o ≡ Some x) × (test x ≡ true)
-some_of test None h = absurd cc
-some_of test (Some x) h = (x, refl, h)
-
--- ---- the class of a file
-
-class_of : (f : File) (c : ClassFile) (n : ℕ) → IsParsed f (Class c n) → (is_class_file f.0 ≡ true) × SpellsOneClass f.1 c n
-class_of f c n q = true_only (SpellsOneClass f.1 c n) (is_class_file f.0) q
-
-aspect_in : (f : File) (a : FirstAspect) → IsParsed f (Aspect a) → (is_class_file f.0 ≡ false) × SpellsOneAspect f.1 a
-aspect_in f a q = false_only (SpellsOneAspect f.1 a) (is_class_file f.0) q
-
-other_in : (f : File) → IsParsed f Other → (is_class_file f.0 ≡ false) × SpellsNoAspect f.1
-other_in f q = false_only (SpellsNoAspect f.1) (is_class_file f.0) q
-
-formed_one : (f : File) (p : Parsed) → IsParsed f p → IsFormed p
-formed_one f (Class c n) q = (class_of f c n q).1.spelled.formed
-formed_one f (Aspect a) q = tt
-formed_one f Other q = tt
-
--- the classes that were read are class files
-pub all_formed : (files : Files) (ps : List Parsed) → AllZip IsParsed files ps → AllByRecursion IsFormed ps
-all_formed [] [] z = tt
-all_formed [] (p ∷ ps) z = absurd z
-all_formed (f ∷ files) [] z = absurd z
-all_formed (f ∷ files) (p ∷ ps) z = (formed_one f p z.0, all_formed files ps z.1)
 
 -- ---- classes with a name
 
@@ -184,33 +114,18 @@ module _ (files : Files) (all : List Parsed) (z : AllZip IsParsed files all) whe
   form_same : (bytes : List ℕ) (c : ClassFile) (n : ℕ) → n ≡ length bytes → has_built_form (has_aspects files) bytes c ≡ has_form (has_aspect all) c n
   form_same bytes c n e = ap (λ (b : Bool). has_form b c (length bytes)) (kinds files all z) ∙ ap (has_form (has_aspect all) c) (sym e)
 
-  is_own : (place : ℕ) (before : Files) (parsed : List Parsed) (c : ClassFile) → Behind place before parsed → ((name : List ℕ) → this_name c ≡ Some name → ¬ (HasClassNamed (take place files) name)) → (o : Option (List ℕ)) → this_name c ≡ o → is_new parsed o ≡ true
-  is_own place before parsed c b h None e = refl
-  is_own place before parsed c b h (Some name) e =
-      ap not (false_from_ne_true (has_class_named parsed name)
-      (λ n. h name e (subst (λ (fs : Files). HasClassNamed fs name) (sym b.taken) (named_found before parsed name b.zipped n))))
-
-  class_tells : (place : ℕ) (before : Files) (parsed : List Parsed) (f : File) (c : ClassFile) (n : ℕ) → Behind place before parsed → IsParsed f (Class c n) → Tells place f (is_built all parsed (Class c n))
-  class_tells place before parsed f c n b q =
+  class_tells : (place : ℕ) (parsed : List Parsed) (f : File) (c : ClassFile) (n : ℕ) → IsParsed f (Class c n) → Tells place f (is_built all parsed (Class c n))
+  class_tells place parsed f c n q =
       let one = class_of f c n q in
+      let form = form_same f.1 c n one.1.counted in
       record {
         built = λ e.
-            let both = and_parts (has_form (has_aspect all) c n) (is_new parsed (this_name c)) e in
-            match_true (IsBuiltClass files place f.1) (IsBuiltAspect files place f.1) (is_class_file f.0) one.0
-            (record {
-              class = c;
-              spelled = one.1.spelled;
-              form = form_same f.1 c n one.1.counted ∙ both.0;
-              own_name = λ name own h.
-                  unnamed before parsed name b.zipped (not_only (has_class_named parsed name) (ap (is_new parsed) (sym own) ∙ both.1))
-                  (subst (λ (fs : Files). HasClassNamed fs name) b.taken h);
-            });
+            match_true (IsBuiltClass files f.1) (IsBuiltAspect files place f.1) (is_class_file f.0) one.0
+            (record { class = c; spelled = one.1.spelled; form = form ∙ e });
         refused = λ e built.
-            let d = of_true (IsBuiltClass files place f.1) (IsBuiltAspect files place f.1) (is_class_file f.0) one.0 built in
+            let d = of_true (IsBuiltClass files f.1) (IsBuiltAspect files place f.1) (is_class_file f.0) one.0 built in
             let same : d.class ≡ c = one.1.only d.class d.spelled in
-            let form : has_form (has_aspect all) c n ≡ true = sym (form_same f.1 c n one.1.counted) ∙ ap (has_built_form (has_aspects files) f.1) (sym same) ∙ d.form in
-            let own : (name : List ℕ) → this_name c ≡ Some name → ¬ (HasClassNamed (take place files) name) = λ name i. d.own_name name (ap this_name same ∙ i) in
-            true≢false (sym (and_from (has_form (has_aspect all) c n) (is_new parsed (this_name c)) form (is_own place before parsed c b own (this_name c) refl)) ∙ e);
+            true≢false (sym d.form ∙ ap (has_built_form (has_aspects files) f.1) same ∙ form ∙ e);
       }
 
   aspect_tells : (place : ℕ) (before : Files) (parsed : List Parsed) (f : File) (a : FirstAspect) → Behind place before parsed → IsParsed f (Aspect a) → Tells place f (is_built all parsed (Aspect a))
@@ -221,10 +136,10 @@ module _ (files : Files) (all : List Parsed) (z : AllZip IsParsed files all) whe
         built = λ e.
             let both = or_false (has_aspect parsed) (is_hidden all a) (not_only (has_aspect parsed || is_hidden all a) e) in
             let names = or_false (has_class_named all a.name) (has_class_named all (codes "System")) both.1 in
-            match_false (IsBuiltClass files place f.1) (IsBuiltAspect files place f.1) (is_class_file f.0) one.0
+            match_false (IsBuiltClass files f.1) (IsBuiltAspect files place f.1) (is_class_file f.0) one.0
             (record { aspect = a; spelled = one.1.spelled; first = behind ∙ both.0; own_name = unnamed files all a.name z names.0; system = unnamed files all (codes "System") z names.1 });
         refused = λ e built.
-            let d = of_false (IsBuiltClass files place f.1) (IsBuiltAspect files place f.1) (is_class_file f.0) one.0 built in
+            let d = of_false (IsBuiltClass files f.1) (IsBuiltAspect files place f.1) (is_class_file f.0) one.0 built in
             let same : d.aspect ≡ a = one.1.only d.aspect d.spelled in
             ⊎_elim
             (λ h. true≢false (sym h ∙ sym behind ∙ d.first))
@@ -241,12 +156,12 @@ module _ (files : Files) (all : List Parsed) (z : AllZip IsParsed files all) whe
       record {
         built = λ e. absurd (true≢false (sym e));
         refused = λ e built.
-            let d = of_false (IsBuiltClass files place f.1) (IsBuiltAspect files place f.1) (is_class_file f.0) one.0 built in
+            let d = of_false (IsBuiltClass files f.1) (IsBuiltAspect files place f.1) (is_class_file f.0) one.0 built in
             one.1 d.aspect d.spelled;
       }
 
   tells : (place : ℕ) (before : Files) (parsed : List Parsed) (f : File) (p : Parsed) → Behind place before parsed → IsParsed f p → Tells place f (is_built all parsed p)
-  tells place before parsed f (Class c n) b q = class_tells place before parsed f c n b q
+  tells place before parsed f (Class c n) b q = class_tells place parsed f c n q
   tells place before parsed f (Aspect a) b q = aspect_tells place before parsed f a b q
   tells place before parsed f Other b q = other_tells place f q
 
@@ -358,13 +273,7 @@ module _ (all : List Parsed) where
   unhidden before place (Aspect a ∷ ps) e = ((unbehind before place a ps e).1, unhidden (before ++ Aspect a ∷ []) (place + 1) ps (passes_on before place (Aspect a) ps e).1)
   unhidden before place (Other ∷ ps) e = absurd cc
 
-  -- there is an aspect's file exactly where there is an aspect
-  beside_none : (before : List Parsed) (place : ℕ) (ps : List Parsed) → Passes before place ps → aspects_in ps ≡ [] → has_aspect ps ≡ false
-  beside_none before place [] e n = refl
-  beside_none before place (Class c k ∷ ps) e n = beside_none (before ++ Class c k ∷ []) (place + 1) ps (passes_on before place (Class c k) ps e).1 n
-  beside_none before place (Aspect a ∷ ps) e n = absurd cc
-  beside_none before place (Other ∷ ps) e n = absurd cc
-
+  -- there is an aspect's file where there is an aspect
   beside_some : (ps : List Parsed) (a : FirstAspect) (rest : List FirstAspect) → aspects_in ps ≡ a ∷ rest → has_aspect ps ≡ true
   beside_some [] a rest n = absurd cc
   beside_some (Class c k ∷ ps) a rest n = beside_some ps a rest n
@@ -379,58 +288,10 @@ module _ (all : List Parsed) where
   class_forms before place (f ∷ fs) [] z b e = absurd z
   class_forms before place (f ∷ fs) (Class c n ∷ ps) z b e =
       let h = passes_on before place (Class c n) ps e in
-      let form = (and_parts (has_form (has_aspect all) c n) (is_new before (this_name c)) h.0).0 in
-      let first : has_form true c n ≡ true = ap (λ (x : Bool). has_form x c n) (sym b) ∙ form in
+      let first : has_form true c n ≡ true = ap (λ (x : Bool). has_form x c n) (sym b) ∙ h.0 in
       ((and_parts (is_first_form c) (nat_le n 65536) first).0, class_forms (before ++ Class c n ∷ []) (place + 1) fs ps z.1 b h.1)
   class_forms before place (f ∷ fs) (Aspect a ∷ ps) z b e = class_forms (before ++ Aspect a ∷ []) (place + 1) fs ps z.1 b (passes_on before place (Aspect a) ps e).1
   class_forms before place (f ∷ fs) (Other ∷ ps) z b e = absurd cc
-
-  plain_forms : (before : List Parsed) (place : ℕ) (fs : Files) (ps : List Parsed) → AllZip IsParsed fs ps → has_aspect all ≡ false → Passes before place ps → AllByRecursion (λ (c : ClassFile). IsTrue (is_well_formed c && is_plain_class c)) (classes_in ps)
-  plain_forms before place [] [] z b e = tt
-  plain_forms before place [] (p ∷ ps) z b e = absurd z
-  plain_forms before place (f ∷ fs) [] z b e = absurd z
-  plain_forms before place (f ∷ fs) (Class c n ∷ ps) z b e =
-      let h = passes_on before place (Class c n) ps e in
-      let form = (and_parts (has_form (has_aspect all) c n) (is_new before (this_name c)) h.0).0 in
-      let plain : is_plain_class c ≡ true = ap (λ (x : Bool). has_form x c n) (sym b) ∙ form in
-      (and_from (is_well_formed c) (is_plain_class c) (class_of f c n z.0).1.spelled.formed plain, plain_forms (before ++ Class c n ∷ []) (place + 1) fs ps z.1 b h.1)
-  plain_forms before place (f ∷ fs) (Aspect a ∷ ps) z b e = plain_forms (before ++ Aspect a ∷ []) (place + 1) fs ps z.1 b (passes_on before place (Aspect a) ps e).1
-  plain_forms before place (f ∷ fs) (Other ∷ ps) z b e = absurd cc
-
-  -- ---- the names of the classes
-
-  named_more : (before : List Parsed) (p : Parsed) (name : List ℕ) → has_class_named before name ≡ true → has_class_named (before ++ p ∷ []) name ≡ true
-  named_more before p name h = list_any-append (is_class_named name) before (p ∷ []) ∙ ap (λ (x : Bool). x || (is_class_named name p || false)) h
-
-  named_here : (before : List Parsed) (c : ClassFile) (n : ℕ) (name : List ℕ) → this_name c ≡ Some name → has_class_named (before ++ Class c n ∷ []) name ≡ true
-  named_here before c n name own =
-      list_any-append (is_class_named name) before (Class c n ∷ [])
-      ∙ or_right (has_class_named before name) (is_class_named name (Class c n) || false)
-      (or_left (is_class_named name (Class c n)) false (ap (is_some_that (λ found. bytes_eq found name)) own ∙ (bytes_eq-Decides name name).1 refl))
-
-  differs : (before : List Parsed) (d : ClassFile) (name : List ℕ) → has_class_named before name ≡ true → is_new before (this_name d) ≡ true → this_name d ≢ Some name
-  differs before d name h n own = true≢false (sym h ∙ not_only (has_class_named before name) (ap (is_new before) (sym own) ∙ n))
-
-  apart_from : (before : List Parsed) (place : ℕ) (ps : List Parsed) (name : List ℕ) → has_class_named before name ≡ true → Passes before place ps → AllByRecursion (λ y. Some name ≢ y) (map this_name (classes_in ps))
-  apart_from before place [] name h e = tt
-  apart_from before place (Class d n ∷ ps) name h e =
-      let p = passes_on before place (Class d n) ps e in
-      let new = (and_parts (has_form (has_aspect all) d n) (is_new before (this_name d)) p.0).1 in
-      ((λ s. differs before d name h new (sym s)), apart_from (before ++ Class d n ∷ []) (place + 1) ps name (named_more before (Class d n) name h) p.1)
-  apart_from before place (Aspect a ∷ ps) name h e = apart_from (before ++ Aspect a ∷ []) (place + 1) ps name (named_more before (Aspect a) name h) (passes_on before place (Aspect a) ps e).1
-  apart_from before place (Other ∷ ps) name h e = absurd cc
-
-  apart : (before : List Parsed) (place : ℕ) (ps : List Parsed) → AllByRecursion IsFormed ps → Passes before place ps → AreApart (map this_name (classes_in ps))
-  apart before place [] f e = tt
-  apart before place (Class c n ∷ ps) f e =
-      let p = passes_on before place (Class c n) ps e in
-      let own = some_of is_class_name (this_name c) (is_named_of c f.0) in (
-        subst (λ (o : Option (List ℕ)). AllByRecursion (λ y. o ≢ y) (map this_name (classes_in ps))) (sym own.1)
-            (apart_from (before ++ Class c n ∷ []) (place + 1) ps own.0 (named_here before c n own.0 own.1) p.1),
-        apart (before ++ Class c n ∷ []) (place + 1) ps f.1 p.1,
-      )
-  apart before place (Aspect a ∷ ps) f e = apart (before ++ Aspect a ∷ []) (place + 1) ps f.1 (passes_on before place (Aspect a) ps e).1
-  apart before place (Other ∷ ps) f e = absurd cc
 
 aspect_forms : (fs : Files) (ps : List Parsed) → AllZip IsParsed fs ps → AllByRecursion (λ (a : FirstAspect). IsTrue (is_first_aspect a)) (aspects_in ps)
 aspect_forms [] [] z = tt
@@ -462,13 +323,14 @@ apart_more : {X : Type 0} (xs : List X) (y : X) → AreApart xs → AllByRecursi
 apart_more [] y h n = (tt, tt)
 apart_more (x ∷ xs) y h n = (each_more (λ z. x ≢ z) xs y h.0 n.0, apart_more xs y h.1 n.1)
 
--- files that were read, and are all built
+-- files that were read, of sound classes, and are all built
 record AreBuilt (files : Files) (all : List Parsed) : Type 0 where
   parsed : AllZip IsParsed files all
+  sound : world.AreSound (classes_in all)
   passes : first_refused all [] 0 all ≡ None
 
 fits : (files : Files) (all : List Parsed) (aspect : Option FirstAspect) → AreBuilt files all → aspects_in all ≡ option_to_list aspect → Fit (classes_in all) aspect
-fits files all None h e = plain_forms all [] 0 files all h.parsed (beside_none all [] 0 all h.passes e) h.passes
+fits files all None h e = sound_free (classes_in all) (classes_formed files all h.parsed) h.sound
 fits files all (Some a) h e =
     let forms = subst (AllByRecursion (λ (x : FirstAspect). IsTrue (is_first_aspect x))) e (aspect_forms files all h.parsed) in
     let hidden = subst (AllByRecursion (λ (x : FirstAspect). is_hidden all x ≡ false)) e (unhidden all [] 0 all h.passes) in
@@ -476,14 +338,14 @@ fits files all (Some a) h e =
     record {
       forms = class_forms all [] 0 files all h.parsed (beside_some all all a [] e) h.passes;
       aspect = forms.0;
-      names = apart_more (map this_name (classes_in all)) (Some a.name) (apart all [] 0 all (all_formed files all h.parsed) h.passes) (other_names a.name all own);
+      names = apart_more (map this_name (classes_in all)) (Some a.name) (sound-apart (classes_in all) library_heads false h.sound) (other_names a.name all own);
     }
 
 -- the classes and the aspect of files that are all built
-pub fit_of : (files : Files) (all : List Parsed) (classes : List ClassFile) (aspect : Option FirstAspect) → AllZip IsParsed files all → first_refused all [] 0 all ≡ None → classes ≡ classes_in all → aspect ≡ last_of None (aspects_in all) → Fit classes aspect
-fit_of files all classes aspect z e c a =
-    subst (λ (cs : List ClassFile). Fit cs aspect) (sym c)
-    (fits files all aspect (record { parsed = z; passes = e }) (one_aspect all [] 0 all e ∙ ap option_to_list (sym a)))
+pub fit_of : (files : Files) (all : List Parsed) (given classes : List ClassFile) (aspect : Option FirstAspect) → AllZip IsParsed files all → first_refused all [] 0 all ≡ None → given ≡ classes_in all → aspect ≡ last_of None (aspects_in all) → classes ≡ given → world.AreSound given → Fit classes aspect
+fit_of files all given classes aspect z e c a same sound =
+    subst (λ (cs : List ClassFile). Fit cs aspect) (sym (same ∙ c))
+    (fits files all aspect (record { parsed = z; sound = subst world.AreSound c sound; passes = e }) (one_aspect all [] 0 all e ∙ ap option_to_list (sym a)))
 
 -- the outputs are planned where they are the files of a weaving of the classes and the aspect
 pub planned_of : (files : Files) (all : List Parsed) (folder : List ℕ) (outputs : Files) (classes : List ClassFile) (aspect : Option FirstAspect) → AllZip IsParsed files all → first_refused all [] 0 all ≡ None → classes ≡ classes_in all → aspect ≡ last_of None (aspects_in all) → IsWoven classes aspect folder outputs → IsPlan files folder outputs
@@ -499,5 +361,5 @@ planned_of files all folder outputs classes aspect z e c a w =
       files = w.files;
     }
 
-pub taken_of : (files : Files) (all : List Parsed) → AllZip IsParsed files all → find is_faulty files ≡ None → first_refused all [] 0 all ≡ None → AreTaken files
-taken_of files all z r e = record { read = r; built = all_built files all z e }
+pub taken_of : (files : Files) (all : List Parsed) → AllZip IsParsed files all → AreSound files → first_refused all [] 0 all ≡ None → AreTaken files
+taken_of files all z s e = record { sound = s; built = all_built files all z e }

@@ -1,34 +1,25 @@
 -- A name in modified UTF-8 is one in UTF-8 once its pairs of surrogates are decoded.
-use Rattle.std.proofs.Common.{◌≡◌, ℕ, zero, suc, ◌+◌, ◌-◌, ◌*◌, ◌<◌, ◌≤◌, Bool, true, false, cond, leb, ltb, eqb, ◌&&◌, List, [], ◌∷◌, ◌++◌, length, Option, None, IsUtf8, refl, sym, ap, subst, ◌∙◌, arith}
+use Rattle.std.proofs.Common.{◌≡◌, ℕ, zero, suc, ◌<◌, ◌≤◌, Bool, true, false, cond, leb, ltb, eqb, ◌&&◌, List, [], ◌∷◌, ◌++◌, length, Option, None, IsUtf8, refl, sym, ap, subst, ◌∙◌, arith}
 use Rattle.std.specs.Prelude.{IsTrue}
 use Rattle.std.specs.List.{list_all}
 use Rattle.std.proofs.lemmas.Bool.{and_parts, and_from, le-leb, lt-ltb, lt-leb, eqb-true, true≢false}
 use Rattle.std.proofs.lemmas.Str.{IsUtf8-nil}
 use Rattle.class_file.specs.Text.{is_utf8, is_paired, is_name_byte, is_name_text, within}
-use Rattle.jp_model.specs.Headline.{four_bytes, utf8_of}
-use Rattle.weave_plan.specs.Utf8.{is_surrogate, is_pair, bits, pair_at}
-use Rattle.weave_plan.proofs.Decoded.{decoded, decoded_byte}
+use Rattle.jp_model.specs.Headline.{four_bytes, is_surrogate, is_pair, surrogate_bits, utf8_of}
+use Rattle.weave_plan.specs.Utf8.{pair_at}
+use Rattle.weave_plan.proofs.Decoded.{decoded_byte}
 use Rattle.weave_plan.proofs.Characters.{one_byte, two_bytes, three_bytes, four_bytes_are}
 use Rattle.weave_plan.proofs.Fronts.{IsValid, Front, front}
 use Rattle.weave_plan.proofs.Fronts.Front.{End, One, Two, Three, Six}
 
 -- the text is decoded to one in UTF-8
-record IsGood (bytes : List ℕ) : Type 0 where
-  same : decoded bytes ≡ utf8_of bytes
-  text : IsUtf8 (utf8_of bytes)
+abbrev IsGood : List ℕ → Type 0
+IsGood bytes = IsUtf8 (utf8_of bytes)
 
 -- ---- a byte that begins no surrogate
 
 abbrev is_high : ℕ → ℕ → Bool
 is_high a b = eqb a 237 && leb 160 b
-
-utf8_byte : (a b : ℕ) (rest : List ℕ) → is_high a b ≡ false → utf8_of (a ∷ b ∷ rest) ≡ a ∷ utf8_of (b ∷ rest)
-utf8_byte a b [] e = refl
-utf8_byte a b (c ∷ []) e = refl
-utf8_byte a b (c ∷ d ∷ []) e = refl
-utf8_byte a b (c ∷ d ∷ f ∷ []) e = refl
-utf8_byte a b (c ∷ d ∷ f ∷ g ∷ rest) e =
-    ap (λ (x : Bool). cond x (four_bytes ((b - 160) * 64 + (c - 128)) ((f - 176) * 64 + (g - 128)) ++ utf8_of rest) (a ∷ utf8_of (b ∷ c ∷ d ∷ f ∷ g ∷ rest))) e
 
 no_pair : (x l h c d : Bool) → (x && l) ≡ false → ((x && ((l && h) && c)) && d) ≡ false
 no_pair true true h c d e = absurd (true≢false e)
@@ -47,8 +38,8 @@ pair_byte a b (c ∷ d ∷ f ∷ g ∷ rest) e =
     let n : is_pair a b c d f g ≡ false = no_pair (eqb a 237) (leb 160 b) (ltb b 176) (within 128 192 c) (is_surrogate 176 d f g) e in
     rw n refl
 
-both_byte : (a b : ℕ) (rest : List ℕ) → is_high a b ≡ false → decoded (b ∷ rest) ≡ utf8_of (b ∷ rest) → decoded (a ∷ b ∷ rest) ≡ utf8_of (a ∷ b ∷ rest)
-both_byte a b rest e h = decoded_byte a (b ∷ rest) (pair_byte a b rest e) ∙ ap (λ (t : List ℕ). a ∷ t) h ∙ sym (utf8_byte a b rest e)
+utf8_byte : (a b : ℕ) (rest : List ℕ) → is_high a b ≡ false → utf8_of (a ∷ b ∷ rest) ≡ a ∷ utf8_of (b ∷ rest)
+utf8_byte a b rest e = decoded_byte a (b ∷ rest) (pair_byte a b rest e)
 
 differs : (a b : ℕ) → (a ≡ b → ⊥) → eqb a b ≡ false
 differs a b n = by (eqb a b) refl
@@ -72,25 +63,16 @@ plain_utf8 : (a : ℕ) (rest : List ℕ) → (a ≡ 237 → ⊥) → utf8_of (a 
 plain_utf8 a [] n = refl
 plain_utf8 a (b ∷ rest) n = utf8_byte a b rest (never_high a b n)
 
-plain : (a : ℕ) (rest : List ℕ) → (a ≡ 237 → ⊥) → decoded rest ≡ utf8_of rest → decoded (a ∷ rest) ≡ utf8_of (a ∷ rest)
-plain a [] n h = refl
-plain a (b ∷ rest) n h = both_byte a b rest (never_high a b n) h
-
 -- ---- each character
 
 good_one : (a : ℕ) (rest : List ℕ) → a < 128 → IsGood rest → IsGood (a ∷ rest)
-good_one a rest small g =
-    let n : a ≡ 237 → ⊥ = λ e. omega arith in
-    record { same = plain a rest n g.same; text = subst IsUtf8 (sym (plain_utf8 a rest n)) (one_byte a (utf8_of rest) small g.text) }
+good_one a rest small g = subst IsUtf8 (sym (plain_utf8 a rest (λ e. omega arith))) (one_byte a (utf8_of rest) small g)
 
 good_two : (a b : ℕ) (rest : List ℕ) → 194 ≤ a → a < 224 → 128 ≤ b → b < 192 → IsGood rest → IsGood (a ∷ b ∷ rest)
 good_two a b rest la ha lb hb g =
     let n : a ≡ 237 → ⊥ = λ e. omega arith in
     let m : b ≡ 237 → ⊥ = λ e. omega arith in
-    record {
-      same = plain a (b ∷ rest) n (plain b rest m g.same);
-      text = subst IsUtf8 (sym (plain_utf8 a (b ∷ rest) n ∙ ap (λ (t : List ℕ). a ∷ t) (plain_utf8 b rest m))) (two_bytes a b (utf8_of rest) la ha lb hb g.text);
-    }
+    subst IsUtf8 (sym (plain_utf8 a (b ∷ rest) n ∙ ap (λ (t : List ℕ). a ∷ t) (plain_utf8 b rest m))) (two_bytes a b (utf8_of rest) la ha lb hb g)
 
 high_of : (a b : ℕ) → (a ≡ 237 → b < 160) → is_high a b ≡ false
 high_of a b most = by (eqb a 237) refl
@@ -106,29 +88,20 @@ good_three a b c rest la ha lb hb least most lc hc g =
     let high = high_of a b most in
     let whole : utf8_of (a ∷ b ∷ c ∷ rest) ≡ a ∷ b ∷ c ∷ utf8_of rest =
     utf8_byte a b (c ∷ rest) high ∙ ap (λ (t : List ℕ). a ∷ t) (plain_utf8 b (c ∷ rest) m ∙ ap (λ (t : List ℕ). b ∷ t) (plain_utf8 c rest k)) in
-    record {
-      same = both_byte a b (c ∷ rest) high (plain b (c ∷ rest) m (plain c rest k g.same));
-      text = subst IsUtf8 (sym whole) (three_bytes a b c (utf8_of rest) la ha lb hb least most lc hc g.text);
-    }
+    subst IsUtf8 (sym whole) (three_bytes a b c (utf8_of rest) la ha lb hb least most lc hc g)
 
 in_bounds : (low high b : ℕ) → low ≤ b → b < high → within low high b ≡ true
 in_bounds low high b l h = and_from (leb low b) (ltb b high) (le-leb low b l) (lt-ltb b high h)
 
 good_six : (b c e f : ℕ) (rest : List ℕ) → 160 ≤ b → b < 176 → 128 ≤ c → c < 192 → 176 ≤ e → e < 192 → 128 ≤ f → f < 192 → IsGood rest → IsGood (237 ∷ b ∷ c ∷ 237 ∷ e ∷ f ∷ rest)
 good_six b c e f rest lb hb lc hc le he lf hf g =
-    let four = four_bytes (bits 160 b c) (bits 176 e f) in
+    let four = four_bytes (surrogate_bits 160 b c) (surrogate_bits 176 e f) in
     let first : is_surrogate 160 237 b c ≡ true = and_from (within 160 176 b) (within 128 192 c) (in_bounds 160 176 b lb hb) (in_bounds 128 192 c lc hc) in
     let second : is_surrogate 176 237 e f ≡ true = and_from (within 176 192 e) (within 128 192 f) (in_bounds 176 192 e le he) (in_bounds 128 192 f lf hf) in
     let pair : is_pair 237 b c 237 e f ≡ true = and_from (is_surrogate 160 237 b c) (is_surrogate 176 237 e f) first second in
-    let high : leb 160 b ≡ true = le-leb 160 b lb in
     let whole : utf8_of (237 ∷ b ∷ c ∷ 237 ∷ e ∷ f ∷ rest) ≡ four ++ utf8_of rest =
-    ap (λ (x : Bool). cond x (four ++ utf8_of rest) (237 ∷ utf8_of (b ∷ c ∷ 237 ∷ e ∷ f ∷ rest))) high in
-    let said : decoded (237 ∷ b ∷ c ∷ 237 ∷ e ∷ f ∷ rest) ≡ four ++ decoded rest =
-    ap (λ (x : Bool). cond x (four ++ decoded rest) (237 ∷ decoded (b ∷ c ∷ 237 ∷ e ∷ f ∷ rest))) pair in
-    record {
-      same = said ∙ ap (λ (t : List ℕ). four ++ t) g.same ∙ sym whole;
-      text = subst IsUtf8 (sym whole) (four_bytes_are (bits 160 b c) (bits 176 e f) (utf8_of rest) (omega arith) (omega arith) g.text);
-    }
+    ap (λ (x : Bool). cond x (four ++ utf8_of rest) (237 ∷ utf8_of (b ∷ c ∷ 237 ∷ e ∷ f ∷ rest))) pair in
+    subst IsUtf8 (sym whole) (four_bytes_are (surrogate_bits 160 b c) (surrogate_bits 176 e f) (utf8_of rest) (omega arith) (omega arith) g)
 
 -- ---- the whole text
 
@@ -136,7 +109,7 @@ abbrev Shorter : List ℕ → Type 0
 Shorter bytes = (rest : List ℕ) → length rest < length bytes → IsValid rest → IsGood rest
 
 step : (bytes : List ℕ) → Front bytes → Shorter bytes → IsGood bytes
-step bytes (End is) h = subst IsGood (sym is) (record { same = refl; text = IsUtf8-nil })
+step bytes (End is) h = subst IsGood (sym is) IsUtf8-nil
 step bytes (One a rest is small v) h =
     let l : length bytes ≡ length (a ∷ rest) = ap length is in
     subst IsGood (sym is) (good_one a rest small (h rest (omega arith) v))
@@ -154,14 +127,9 @@ good : (n : ℕ) (bytes : List ℕ) → length bytes ≤ n → IsValid bytes →
 good zero bytes le v = step bytes (front bytes v) (λ rest lt w. absurd (omega arith))
 good (suc n) bytes le v = step bytes (front bytes v) (λ rest lt w. good n rest (omega arith) w)
 
-name_is_good : (name : List ℕ) → IsTrue (is_name_text name) → IsGood name
-name_is_good name h =
+-- the name of a class is a text
+pub name_is_text : (name : List ℕ) → IsTrue (is_name_text name) → IsUtf8 (utf8_of name)
+name_is_text name h =
     let a = and_parts (is_utf8 name) (is_paired name && list_all is_name_byte name) h in
     let b = and_parts (is_paired name) (list_all is_name_byte name) a.1 in
     good (length name) name (omega arith) (record { utf8 = a.0; paired = b.0; free = b.1 })
-
-pub name_is_decoded : (name : List ℕ) → IsTrue (is_name_text name) → decoded name ≡ utf8_of name
-name_is_decoded name h = (name_is_good name h).same
-
-pub name_is_text : (name : List ℕ) → IsTrue (is_name_text name) → IsUtf8 (utf8_of name)
-name_is_text name h = (name_is_good name h).text

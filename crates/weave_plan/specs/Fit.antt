@@ -1,5 +1,5 @@
 -- What may be woven, and what is written of it.
-use Rattle.std.specs.Prelude.{◌≡◌, ℕ, ◌&&◌, IsTrue, List, [], ◌∷◌, ◌++◌, Option, Some, None, map}
+use Rattle.std.specs.Prelude.{◌≡◌, ℕ, ◌&&◌, not, IsTrue, List, [], ◌∷◌, ◌++◌, Option, Some, None, map}
 use Rattle.std.specs.List.{AllByRecursion}
 use Rattle.std.specs.Option.{option_to_list}
 use Rattle.aj_outside.specs.Files.{Files}
@@ -7,9 +7,9 @@ use Rattle.class_file.specs.declared.types.ClassFile.{ClassFile}
 use Rattle.class_file.specs.Pool.{this_name}
 use Rattle.class_file.specs.WellFormed.{is_well_formed}
 use Rattle.class_file.specs.FirstForm.{is_first_form}
+use Rattle.class_heads.specs.Reserved.{is_reserved}
 use Rattle.jp_model.specs.declared.first_aspect.FirstAspect.{FirstAspect}
 use Rattle.jp_model.specs.AspectText.{is_first_aspect, aspect_of}
-use Rattle.jp_model.specs.Input.{is_plain_class}
 use Rattle.jp_model.specs.Headline.{AreApart, IsWeaving, outputs_of}
 
 -- the classes and the aspect are of the first form, and no two have one name
@@ -18,9 +18,9 @@ pub record FitAspect (classes : List ClassFile) (a : FirstAspect) : Type 0 where
   pub aspect : IsTrue (is_first_aspect a)
   pub names : AreApart (map this_name classes ++ Some a.name ∷ [])
 
--- they can be woven; without an aspect each class is plain
+-- they can be woven; without an aspect no class has names that are kept for what weaving makes
 abbrev pub Fit : List ClassFile → Option FirstAspect → Type 0
-Fit classes None = AllByRecursion (λ c. IsTrue (is_well_formed c && is_plain_class c)) classes
+Fit classes None = AllByRecursion (λ c. IsTrue (is_well_formed c && not (is_reserved c))) classes
 Fit classes (Some a) = FitAspect classes a
 
 -- the classes are a weaving of these

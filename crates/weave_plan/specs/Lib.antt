@@ -1,6 +1,6 @@
 pub mod Plan
 pub mod Faults
+pub mod Worlds
 pub mod Parsed
 pub mod Fit
-pub mod Names
 pub mod Utf8

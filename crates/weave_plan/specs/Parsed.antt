@@ -1,5 +1,5 @@
 -- What each file is, and the first that isn't built, by what the files are.
-use Rattle.std.specs.Prelude.{◌≡◌, ℕ, ◌+◌, nat_le, Bool, true, false, not, ◌&&◌, ◌||◌, if◌then◌else◌, cond, List, [], ◌∷◌, ◌++◌, length, IsTrue, Option, Some, None, Ok, Err, MatchBool, codes}
+use Rattle.std.specs.Prelude.{◌≡◌, ℕ, ◌+◌, nat_le, Bool, true, false, not, ◌&&◌, ◌||◌, cond, List, [], ◌∷◌, ◌++◌, length, IsTrue, Option, Some, None, Ok, Err, MatchBool, codes}
 use Rattle.std.specs.List.{list_any}
 use Rattle.std.specs.Str.{bytes_eq}
 use Rattle.class_file.specs.declared.types.ClassFile.{ClassFile}
@@ -12,7 +12,7 @@ use Rattle.class_format.specs.declared.fault.ClassFault.TheVariants as class_fau
 use Rattle.class_format.specs.Reading.{reading}
 use Rattle.jp_model.specs.declared.first_aspect.FirstAspect.{FirstAspect}
 use Rattle.jp_model.specs.AspectText.{SpellsAspect}
-use Rattle.jp_model.specs.Input.{is_class_file, is_plain_class, SpellsClass}
+use Rattle.jp_model.specs.Input.{is_class_file, SpellsClass}
 use Rattle.weave_plan.specs.declared.parsing.Parsed.{Parsed}
 use Rattle.weave_plan.specs.declared.parsing.Parsed.TheVariants.{Class, Aspect, Other}
 use Rattle.weave_plan.specs.declared.planning.PlanFault.{PlanFault}
@@ -51,6 +51,7 @@ IsParsed file parsed = MatchBool (is_class_file file.0) (IsParsedClass file.1 pa
 -- the file at this place is one of a class that is none, for this fault, unless memory ran out
 abbrev pub IsFaultOf : ℕ → (List ℕ × List ℕ) → PlanFault → Type 0
 IsFaultOf place file (plan_fault.Class at fault) = (at ≡ place) × (is_class_file file.0 ≡ true) × (reading file.1 ≡ Err fault)
+IsFaultOf place file (plan_fault.World fault) = ⊥
 IsFaultOf place file (plan_fault.NotBuilt at) = ⊥
 IsFaultOf place file plan_fault.Memory = Unit {0}
 
@@ -88,14 +89,9 @@ has_aspect files = list_any is_aspect files
 
 -- ---- the first file that isn't built
 
--- the class, whose file has so many bytes, is of the form that is built, beside an aspect or without one
+-- the class, whose file has so many bytes, is of the form that is built beside an aspect, where there is one
 abbrev pub has_form : Bool → ClassFile → ℕ → Bool
-has_form beside_aspect c count = if beside_aspect then is_first_form c && nat_le count 65536 else is_plain_class c
-
--- none of these is a class with this name
-abbrev pub is_new : List Parsed → Option (List ℕ) → Bool
-is_new before None = true
-is_new before (Some name) = not (has_class_named before name)
+has_form beside_aspect c count = not beside_aspect || (is_first_form c && nat_le count 65536)
 
 -- A class has the aspect's name, or hides java.lang's System from its body.
 abbrev pub is_hidden : List Parsed → FirstAspect → Bool
@@ -103,7 +99,7 @@ is_hidden files a = has_class_named files a.name || has_class_named files (codes
 
 -- the file is built that stands behind these ones of all
 abbrev pub is_built : List Parsed → List Parsed → Parsed → Bool
-is_built all before (Class c count) = has_form (has_aspect all) c count && is_new before (this_name c)
+is_built all before (Class c count) = has_form (has_aspect all) c count
 is_built all before (Aspect a) = not (has_aspect before || is_hidden all a)
 is_built all before Other = false
 

@@ -1,47 +1,43 @@
 //! The first file that isn't built.
 
-ghost use Rattle.std.specs.Prelude.{◌≡◌, ◌||◌, List, [], map, ℕ, IfOk, OnOk};
-ghost use Rattle.std.specs.List.{AllByRecursion, list_any};
+ghost use Rattle.std.specs.Prelude.{◌≡◌, []};
+ghost use Rattle.std.specs.List.{AllByRecursion};
 ghost use Rattle.std.specs.Str.{bytes_eq};
 ghost use Rattle.class_file.specs.Pool.{this_name};
 ghost use Rattle.class_file.specs.Sound.{is_some_that};
 ghost use Rattle.weave_plan.specs.Parsed as word;
-ghost use Rattle.weave_plan.specs.Names.{has_name, is_new_name};
 
 use crate::forms::has_form;
 use crate::parsing::Parsed;
 use class_file::{ClassFile, class_name};
 use jp_model::FirstAspect;
-use std::alloc::{AllocError, Global};
-use std::collections::BTreeSet;
 
-/// The place of the first file that isn't built: a class that is not of the form or has the name of an
-/// earlier one, an aspect that is not of the form, a second one, or one with the name of a class or beside
-/// a class that hides java.lang's System.
-pub(crate) fn first_not_built(alloc: Global, files: &[Parsed]) -> Result<Option<usize>, AllocError>
+/// The place of the first file that isn't built: a class that is not of the form beside an aspect, an
+/// aspect that is not of the form, a second one, or one with the name of a class or beside a class that
+/// hides java.lang's System.
+pub(crate) fn first_not_built(files: &[Parsed]) -> Option<usize>
     requires { AllByRecursion word.IsFormed files.now }
-    ensures { IfOk result (λ found. found ≡ word.first_refused files.now [] 0 files.now) }
+    ensures { result ≡ word.first_refused files.now [] 0 files.now }
 {
     let beside_aspect = has_aspect(files);
-    let mut names = BTreeSet::new(alloc);
     let mut behind_aspect = false;
     for (place, file) in files.iter().enumerate() {
         match file {
             Parsed::Class(class, count) => {
-                if !has_form(beside_aspect, class, *count) || !put_name(&mut names, class)? {
-                    return Ok(Some(place));
+                if !has_form(beside_aspect, class, *count) {
+                    return Some(place);
                 }
             }
             Parsed::Aspect(aspect) => {
                 if behind_aspect || is_hidden(files, aspect) {
-                    return Ok(Some(place));
+                    return Some(place);
                 }
                 behind_aspect = true;
             }
-            Parsed::Other => return Ok(Some(place)),
+            Parsed::Other => return Some(place),
         }
     }
-    Ok(None)
+    None
 }
 
 /// Whether one of the files is of an aspect.
@@ -58,17 +54,6 @@ fn is_aspect(file: &Parsed) -> bool
     match file {
         Parsed::Class(_, _) => false,
         Parsed::Aspect(_) | Parsed::Other => true,
-    }
-}
-
-/// Puts the name of a class to these names. Whether it is a new one.
-fn put_name<'a>(names: &mut BTreeSet<&'a [u8]>, class: &'a ClassFile) -> Result<bool, AllocError>
-    ensures new { IfOk result (λ new. new ≡ is_new_name (map (λ k. k.now) names.old.keys) (this_name class.now)) }
-    ensures put { OnOk result ((name : List ℕ) → has_name (map (λ k. k.now) names.new.keys) name ≡ (is_some_that (λ found. bytes_eq found name) (this_name class.now) || has_name (map (λ k. k.now) names.old.keys) name)) }
-{
-    match class_name(class) {
-        None => Ok(true),
-        Some(name) => Ok(names.insert(name)?),
     }
 }
 

@@ -6,8 +6,8 @@ ghost use Rattle.std.specs.String.{string_bytes};
 ghost use Rattle.class_file.specs.Pool.{this_name};
 ghost use Rattle.class_file.specs.Sound.{is_some_that};
 ghost use Rattle.class_file.specs.Text.{is_name_text, is_class_name};
-ghost use Rattle.weave_plan.specs.Utf8.{pair_at, is_surrogate};
-ghost use Rattle.jp_model.specs.Headline.{IsWritten, output_name, utf8_of, four_bytes};
+ghost use Rattle.weave_plan.specs.Utf8.{pair_at};
+ghost use Rattle.jp_model.specs.Headline.{IsWritten, output_name, utf8_of, four_bytes, is_surrogate};
 
 use aj_outside::Name;
 use class_file::{ClassFile, class_name};
@@ -41,8 +41,7 @@ fn push_name(alloc: Global, text: &mut String, name: &[u8]) -> Result<(), AllocE
 
 /// A name in UTF-8, from its modified UTF-8 (JVMS 4.4.7), where a character past U+FFFF is two
 /// surrogates of three bytes each.
-fn utf8_of(alloc: Global, name: &[u8]) -> Result<Vec<u8>, AllocError>
-    requires { IsTrue (is_name_text name.now) }
+pub fn utf8_of(alloc: Global, name: &[u8]) -> Result<Vec<u8>, AllocError>
     ensures { IfOk result (λ text. text.items ≡ utf8_of name.now) }
 {
     let mut text = Vec::new(alloc);

@@ -8,5 +8,7 @@ mod forms;
 mod outputs;
 mod parsing;
 mod planning;
+mod worlds;
 
+pub use file_names::utf8_of;
 pub use planning::{NamedFile, PlanFault, plan};

@@ -8,9 +8,11 @@ ghost use Rattle.weave_plan.specs.Plan.{IsPlan, files_of};
 use crate::built::first_not_built;
 use crate::outputs::{output_files, written};
 use crate::parsing::{Parsed, parsed_files};
+use crate::worlds::sound_classes;
 use aj_outside::Name;
 use class_file::ClassFile;
 use class_format::ClassFault;
+use class_world::WorldFault;
 use jp_model::FirstAspect;
 use std::alloc::{AllocError, AllocFailed, Global};
 use thiserror::Error;
@@ -23,11 +25,14 @@ pub struct NamedFile {
 }
 
 /// Why nothing was planned.
-#[derive(Clone, Copy, Debug, PartialEq, Eq, Error)]
+#[derive(Debug, Drop, PartialEq, Eq, Error)]
 pub enum PlanFault {
     /// The class file at this place of the list is the first that is none, with its first fault.
     #[error("the class file at place {0}: {1}")]
     Class(usize, ClassFault),
+    /// The classes have this first fault as a world.
+    #[error("{0}")]
+    World(WorldFault),
     /// The file at this place of the list is the first that is not of a form that is built.
     #[error("the file at place {0} is not built")]
     NotBuilt(usize),
@@ -55,19 +60,21 @@ impl<T: Drop> From<AllocFailed<T>> for PlanFault {
 /// The files to write, in byte order of their names: `output/NAME.class` for each woven class.
 ///
 /// # Errors
-/// `Class` where some class file is none, else `NotBuilt` where some file isn't of a form that is built,
-/// and `Memory`.
+/// `Class` where some class file is none, else `World` where the classes have a fault as a world, else
+/// `NotBuilt` where some file isn't of a form that is built, and `Memory`.
 pub fn plan(alloc: Global, inputs: &[NamedFile], output: &str) -> Result<Vec<NamedFile>, PlanFault>
     ensures planned { IfOk result (λ outputs. IsPlan (files_of inputs.now) output.now (files_of outputs.items)) }
     ensures taken { OnOk result (AreTaken (files_of inputs.now)) }
     ensures refused { IfErr result (AreRefused (files_of inputs.now)) }
 {
     let parsed = parsed_files(alloc, inputs)?;
-    if let Some(place) = first_not_built(alloc, parsed.as_slice())? {
-        return Err(PlanFault::NotBuilt(place));
-    }
+    let not_built = first_not_built(parsed.as_slice());
     let (classes, aspect) = sorted_out(alloc, parsed)?;
-    Ok(planned(alloc, output, classes, aspect)?)
+    let classes = sound_classes(alloc, classes)?;
+    match not_built {
+        Some(place) => Err(PlanFault::NotBuilt(place)),
+        None => Ok(planned(alloc, output, classes, aspect)?),
+    }
 }
 
 /// The files of the woven classes.

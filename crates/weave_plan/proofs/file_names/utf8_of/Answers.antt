@@ -1,6 +1,5 @@
 use Rattle.weave_plan.proofs.Decoded.{pair_more, byte_more, at_end}
-use Rattle.weave_plan.proofs.Utf8.{name_is_decoded}
-use Rattle.std.proofs.Common.{sym, ◌∙◌, arith}
+use Rattle.std.proofs.Common.{sym}
 use Rattle.weave_plan.proofs.file_names.utf8_of.Goals as goal
 
 pub loop-rest-preserved-in-Some : goal.loop-rest-preserved-in-Some
@@ -12,4 +11,4 @@ loop-rest-preserved c =
     byte_more c.args.name.now c.loop-rest.text.items c.loop-rest.rest.now c.push.new.self.items c.in-len1-up.len_at_least (sym c.in-None.ensures.split) c.in_ok-push-in-None.ensures.items c.loop-rest.invariant
 
 pub returns : goal.returns
-returns c = at_end c.args.name.now c.loop-rest.text.items c.loop-rest.rest.now c.in_default.len_below c.loop-rest.invariant ∙ name_is_decoded c.args.name.now c.requires
+returns c = at_end c.args.name.now c.loop-rest.text.items c.loop-rest.rest.now c.in_default.len_below c.loop-rest.invariant

@@ -1,7 +1,6 @@
 use Rattle.std.proofs.Common.{List, ℕ, ap, ◌∙◌}
-use Rattle.aj_outside.specs.Files.{Files, put_file}
+use Rattle.aj_outside.specs.Files.{put_file}
 use Rattle.jp_model.specs.Headline.{IsWritten, output_name}
-use Rattle.class_file.specs.Spelling.{spelling}
 use Rattle.weave_plan.proofs.Lists.{all_at}
 use Rattle.weave_plan.proofs.Placed.{seen, inserted, put_more}
 use Rattle.weave_plan.proofs.outputs.sorted.Goals as goal
