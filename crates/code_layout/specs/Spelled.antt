@@ -1,0 +1,117 @@
+-- The bytes of rows that are laid out (JVMS 6.4), and what the steps of laying out give each other.
+use Rattle.std.specs.Prelude.{◌≡◌, ℕ, zero, suc, ◌+◌, ◌-◌, ◌^◌, ◌<◌, ◌≤◌, Bool, true, false, List, [], ◌∷◌, ◌++◌, length, map, get_or, replicate, ℤ, pos, ◌+ℤ◌, ◌-ℤ◌}
+use Rattle.std.specs.List.{AllByRecursion}
+use Rattle.opcode_table.specs.declared.insn.Insn.{Insn}
+use Rattle.opcode_table.specs.declared.insn.Insn.TheVariants as insn
+use Rattle.opcode_table.specs.Decoding.{table_place}
+use Rattle.opcode_table.specs.Spelling.{spelling, s4_bytes}
+use Rattle.code_layout.specs.declared.layout_fault.LayoutFault.{LayoutFault}
+use Rattle.code_layout.specs.declared.layout_fault.LayoutFault.TheVariants as faults
+use Rattle.code_layout.specs.declared.block.Block.{Block}
+use Rattle.code_layout.specs.declared.row.Row.{Row}
+use Rattle.code_layout.specs.Blocks.{Leads, start_of, row_count}
+use Rattle.code_layout.specs.Places.{goto_w, wide_jump, is_test, opposite, first_wide, other_wide, place_of, end_of, AreWidened}
+
+-- ---- bytes
+
+-- zeros up to the next multiple of four behind the opcode
+abbrev pub padding : ℕ → List ℕ
+padding pc = replicate (table_place pc - (pc + 1)) 0
+
+abbrev pub words : List ℤ → List ℕ
+words [] = []
+words (n ∷ numbers) = s4_bytes n ++ words numbers
+
+-- the default's offset, the lowest and the highest key, and an offset for each key
+abbrev pub table_bytes : List ℤ → List ℤ → List ℕ
+table_bytes (low ∷ keys) (default ∷ offsets) = s4_bytes default ++ (s4_bytes low ++ (s4_bytes (low +ℤ pos (length keys)) ++ words offsets))
+table_bytes _ _ = []
+
+-- each key and its offset
+abbrev pub pairs_bytes : List ℤ → List ℤ → List ℕ
+pairs_bytes (key ∷ keys) (offset ∷ offsets) = s4_bytes key ++ (s4_bytes offset ++ pairs_bytes keys offsets)
+pairs_bytes _ _ = []
+
+-- the default's offset, the number of keys, and the pairs
+abbrev pub lookup_bytes : List ℤ → List ℤ → List ℕ
+lookup_bytes keys [] = []
+lookup_bytes keys (default ∷ offsets) = s4_bytes default ++ (s4_bytes (pos (length keys)) ++ pairs_bytes keys offsets)
+
+-- an instruction at pc that is no widened branch, with these keys and offsets
+abbrev pub narrow_bytes : ℕ → Insn → List ℤ → List ℤ → List ℕ
+narrow_bytes pc (insn.Branch op offset) keys offsets = spelling (insn.Branch op (get_or offsets 0 (pos 0)))
+narrow_bytes pc (insn.TableSwitch table) keys offsets = 170 ∷ padding pc ++ table_bytes keys offsets
+narrow_bytes pc (insn.LookupSwitch table) keys offsets = 171 ∷ padding pc ++ lookup_bytes keys offsets
+narrow_bytes pc insn keys offsets = spelling insn
+
+abbrev pub widened_bytes_by : Bool → ℕ → ℤ → List ℕ
+widened_bytes_by true op offset = spelling (insn.Branch (opposite op) (pos 8)) ++ spelling (insn.Branch goto_w (offset -ℤ pos 3))
+widened_bytes_by false op offset = spelling (insn.Branch (wide_jump op) offset)
+
+-- a widened branch
+abbrev pub widened_bytes : Insn → ℤ → List ℕ
+widened_bytes (insn.Branch op offset) distance = widened_bytes_by (is_test op) op distance
+widened_bytes insn distance = []
+
+abbrev pub distance : (ℕ → ℕ) → ℕ → ℕ → ℤ
+distance place i to = pos (place to) -ℤ pos (place i)
+
+-- row i
+abbrev pub row_bytes : (ℕ → ℕ) → ℕ → Bool → Row → List ℕ
+row_bytes place i true row = widened_bytes row.insn (distance place i (get_or row.jump.to 0 0))
+row_bytes place i false row = narrow_bytes (place i) row.insn row.jump.keys (map (distance place i) row.jump.to)
+
+abbrev pub bytes_from : (ℕ → ℕ) → ℕ → List Row → List Bool → List ℕ
+bytes_from place i [] wide = []
+bytes_from place i (row ∷ rows) wide = row_bytes place i (first_wide wide) row ++ bytes_from place (i + 1) rows (other_wide wide)
+
+abbrev pub bytes_of : List Row → List Bool → List ℕ
+bytes_of rows wide = bytes_from (place_of rows wide) 0 rows wide
+
+-- ---- what one step gives the next
+
+pub record IsRow (count : ℕ) (row : Row) : Type 0 where
+  pub leads : Leads row.insn row.jump
+  pub within : AllByRecursion (λ (to : ℕ). to ≤ count) row.jump.to
+
+abbrev pub AreRows : List Row → Type 0
+AreRows rows = AllByRecursion (IsRow (length rows)) rows
+
+-- of each block the number of its first row, and behind them that of all rows
+pub record AreStarts (blocks : List Block) (starts : List ℕ) : Type 0 where
+  pub count : length starts ≡ length blocks + 1
+  pub each : (k : ℕ) → k ≤ length blocks → get_or starts k 0 ≡ start_of blocks k
+
+-- of each row its place, and behind them the code's end
+pub record ArePlaces (rows : List Row) (wide : List Bool) (places : List ℕ) : Type 0 where
+  pub flags : length wide ≡ length rows
+  pub count : length places ≡ length rows + 1
+  pub each : (i : ℕ) → i ≤ length rows → get_or places i 0 ≡ place_of rows wide i
+
+-- the length does not fit 32 bits
+pub record Overflows (rows : List Row) (n : ℕ) : Type 0 where
+  pub wide : List Bool
+  pub widened : AreWidened rows wide
+  pub long : 2 ^ 32 ≤ end_of rows wide
+  pub told : n ≡ 2 ^ 32 - 1
+
+abbrev pub IsOverflow : List Row → LayoutFault → Type 0
+IsOverflow rows (faults.TooLong n) = Overflows rows n
+IsOverflow rows (faults.TooManyEntries n) = ⊥
+IsOverflow rows faults.Memory = Unit {0}
+
+-- there are more rows than 32 bits count
+abbrev pub AreTooMany : List Block → LayoutFault → Type 0
+AreTooMany blocks (faults.TooLong n) = (2 ^ 32 ≤ row_count blocks) × (n ≡ 2 ^ 32 - 1)
+AreTooMany blocks (faults.TooManyEntries n) = ⊥
+AreTooMany blocks faults.Memory = Unit {0}
+
+-- the place of a row as a list of places has it
+abbrev pub place_in : List ℕ → ℕ → ℕ
+place_in places i = get_or places i 0
+
+-- the places of so many rows, which fit 16 bits
+pub record AreSmall (count : ℕ) (places : List ℕ) : Type 0 where
+  pub all : length places ≡ count + 1
+  pub each : (i : ℕ) → place_in places i < 2 ^ 16
+  pub rise : (i j : ℕ) → i ≤ j → j ≤ count → place_in places i ≤ place_in places j
