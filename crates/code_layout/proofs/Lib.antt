@@ -6,3 +6,5 @@ pub mod Table
 pub mod Walking
 pub mod Parts
 pub mod Taken
+pub mod Starts
+pub mod Rising
