@@ -8,3 +8,5 @@ pub mod Parts
 pub mod Taken
 pub mod Starts
 pub mod Rising
+pub mod Words
+pub mod Standing

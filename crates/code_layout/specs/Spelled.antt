@@ -100,12 +100,6 @@ IsOverflow rows (faults.TooLong n) = Overflows rows n
 IsOverflow rows (faults.TooManyEntries n) = ⊥
 IsOverflow rows faults.Memory = Unit {0}
 
--- there are more rows than 32 bits count
-abbrev pub AreTooMany : List Block → LayoutFault → Type 0
-AreTooMany blocks (faults.TooLong n) = (2 ^ 32 ≤ row_count blocks) × (n ≡ 2 ^ 32 - 1)
-AreTooMany blocks (faults.TooManyEntries n) = ⊥
-AreTooMany blocks faults.Memory = Unit {0}
-
 -- the place of a row as a list of places has it
 abbrev pub place_in : List ℕ → ℕ → ℕ
 place_in places i = get_or places i 0
