@@ -10,3 +10,4 @@ pub mod Starts
 pub mod Rising
 pub mod Words
 pub mod Standing
+pub mod Laying

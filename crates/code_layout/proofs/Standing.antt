@@ -12,14 +12,14 @@ use Rattle.opcode_table.specs.Table.{Opcode, opcodes, opcode, joined, form_in, f
 use Rattle.opcode_table.specs.Decoding.{Decoded, decoded, table_place}
 use Rattle.opcode_table.specs.Spelling.{spelling, branch_bytes, FitsBranch, IsBranchForm, IsInsn, IsSingle, IsShaped}
 use Rattle.opcode_table.specs.DecodedAgain.{decoded_where_spelled}
-use Rattle.class_file.specs.Code.{offsets}
+use Rattle.class_file.specs.Code.{offsets, numbered}
 use Rattle.code_layout.specs.declared.method_code.Jump.{Jump}
 use Rattle.code_layout.specs.declared.row.Row.{Row}
 use Rattle.code_layout.specs.Apart.{keys_of}
 use Rattle.code_layout.specs.Blocks.{HasJump, Leads, Count}
 use Rattle.code_layout.specs.Places.{goto, goto_w, wide_jump, is_test, opposite, is_short_form, is_short, narrow_size, branch_size, behind_insn, behind, passes, is_far_insn, is_far}
 use Rattle.code_layout.specs.Laid.{bare, branch, Stands, StandsOver, StandsWidened, StandsWide, RowStands}
-use Rattle.code_layout.specs.Spelled.{padding, words, table_bytes, pairs_bytes, lookup_bytes, narrow_bytes, widened_bytes_by, widened_bytes, distance, row_bytes}
+use Rattle.code_layout.specs.Spelled.{IsRow, padding, words, table_bytes, pairs_bytes, lookup_bytes, narrow_bytes, widened_bytes_by, widened_bytes, distance, row_bytes}
 use Rattle.code_layout.proofs.Words.{At, at_first, at_second, at_room, Fit, Reads, words_length, table_reads, lookup_reads}
 
 -- ---- opcodes of branches
@@ -165,6 +165,20 @@ all_fit : (place : ℕ → ℕ) (i count : ℕ) (to : List ℕ) → ((j : ℕ) �
 all_fit place i count [] small le all = tt
 all_fit place i count (t ∷ to) small le all = (fits_32 (place t) (place i) (small t all.0) (small i le), all_fit place i count to small le all.1)
 
+-- the last key of a tableswitch
+last_of : (xs : List ℤ) (y : ℤ) → Fit (xs ++ y ∷ []) → FitsSigned w32 y
+last_of [] y fit = fit.0
+last_of (x ∷ xs) y fit = last_of xs y fit.1
+
+last_fits : (keys : List ℤ) → Count keys → Fit keys → FitsSigned w32 (get_or keys 0 (pos 0) +ℤ pos (length keys - 1))
+last_fits [] count fit = absurd count
+last_fits (low ∷ keys) count fit =
+    let e : length keys ≡ length (low ∷ keys) - 1 = omega arith in
+    subst (λ (n : ℕ). FitsSigned w32 (low +ℤ pos n)) e (last_of (numbered (length keys) (λ i. low +ℤ pos i)) (low +ℤ pos (length keys)) (subst Fit count fit))
+
+count_fits : (n : ℕ) → n < 2 ^ 16 → FitsSigned w32 (pos n)
+count_fits n lt = omega arith
+
 -- ---- what stands
 
 single_stands : (code : List ℕ) (pc next : ℕ) (found i : Insn) (keys : List ℤ) (targets : List ℕ) → At code pc (spelling found) → IsInsn found → IsSingle found → bare found ≡ bare i → keys_of code found ≡ keys
@@ -242,3 +256,64 @@ module _ (code : List ℕ) (place : ℕ → ℕ) (count : ℕ) (small : (j : ℕ
       reads_stands (Insn.LookupSwitch (table_place (place i))) (Insn.LookupSwitch table) (place (i + 1)) _ keys (t ∷ to)
       (lookup_reads code (place i) keys (distance place i t) offs a (omega (arith, length-map to (distance place i))) has.0 fits.0 number fit fits.1) refl
       (omega (arith, past (place i)))
+
+  plain_row : (insn : Insn) (jump : Jump ℕ) → At code (place i) (spelling insn) → IsInsn insn → IsSingle insn → keys_of code insn ≡ [] → offsets code insn ≡ [] → (jump.keys ≡ []) × (jump.to ≡ []) → place (i + 1) ≡ place i + length (spelling insn)
+      → Stands code (place i) (place (i + 1)) insn jump.keys (map place jump.to)
+  plain_row insn jump a valid single no_keys no_offsets none next = plain_stands code (place i) (place (i + 1)) insn place jump a valid single no_keys no_offsets none (sym next)
+
+  narrow_stands : (insn : Insn) (jump : Jump ℕ) → At code (place i) (narrow_bytes (place i) insn jump.keys (map (distance place i) jump.to)) → Leads insn jump → Fit jump.keys → AllByRecursion (λ (t : ℕ). t ≤ count) jump.to
+      → is_far_insn place i insn jump.to ≡ false → place (i + 1) ≡ behind_insn false (place i) insn (length jump.keys) → place (i + 1) < 2 ^ 16 → Stands code (place i) (place (i + 1)) insn jump.keys (map place jump.to)
+  narrow_stands (Insn.Plain op) jump a leads fit all near next end = plain_row (Insn.Plain op) jump a leads.0 tt refl refl leads.1 next
+  narrow_stands (Insn.Bipush value) jump a leads fit all near next end = plain_row (Insn.Bipush value) jump a leads.0 tt refl refl leads.1 next
+  narrow_stands (Insn.Sipush value) jump a leads fit all near next end = plain_row (Insn.Sipush value) jump a leads.0 tt refl refl leads.1 next
+  narrow_stands (Insn.Local op index wide) jump a leads fit all near next end = plain_row (Insn.Local op index wide) jump a leads.0 tt refl refl leads.1 next
+  narrow_stands (Insn.Iinc index by wide) jump a leads fit all near next end = plain_row (Insn.Iinc index by wide) jump a leads.0 tt refl refl leads.1 next
+  narrow_stands (Insn.Pool op index) jump a leads fit all near next end = plain_row (Insn.Pool op index) jump a leads.0 tt refl refl leads.1 next
+  narrow_stands (Insn.Interface index n last) jump a leads fit all near next end = plain_row (Insn.Interface index n last) jump a leads.0 tt refl refl leads.1 next
+  narrow_stands (Insn.NewArray kind) jump a leads fit all near next end = plain_row (Insn.NewArray kind) jump a leads.0 tt refl refl leads.1 next
+  narrow_stands (Insn.Multi index dims) jump a leads fit all near next end = plain_row (Insn.Multi index dims) jump a leads.0 tt refl refl leads.1 next
+  narrow_stands (Insn.Branch op offset) jump a leads fit all near next end = branch_stands op offset jump.keys jump.to a leads.0 leads.1.0 leads.1.1 all near next
+  narrow_stands (Insn.TableSwitch table) jump a leads fit all near next end =
+      table_stands table jump.keys jump.to a leads.1.0 leads.1.1 fit (last_fits jump.keys leads.1.0 fit) all next
+  narrow_stands (Insn.LookupSwitch table) jump a leads fit all near next end =
+      lookup_stands table jump.keys jump.to a leads.1 fit (count_fits (length jump.keys) (omega (arith, past (place i)))) all next
+
+  widened_stands_by : (b : Bool) (op t : ℕ) → is_test op ≡ b → is_short op ≡ true → At code (place i) (widened_bytes_by b op (distance place i t)) → t ≤ count → place (i + 1) ≡ place i + cond b 8 5
+      → StandsWidened b code (place i) (place (i + 1)) op (place t ∷ [])
+  widened_stands_by true op t test short a le next =
+      let opp : form_of (opposite op) ≡ Some Form.Branch = short_form (form_of (opposite op)) (opposite_short op short test) in
+      let d : ℤ = distance place i t in
+      let first : List ℕ = spelling (Insn.Branch (opposite op) (pos 8)) in
+      let second : List ℕ = spelling (Insn.Branch goto_w (d -ℤ pos 3)) in
+      let three : length first ≡ 3 = short_length (opposite op) (pos 8) opp in
+      let eight : FitsSigned w16 (pos 8) = omega arith in
+      let there : At code (place i + 3) second = subst (λ (n : ℕ). At code (place i + n) second) three (at_second code (place i) first second a) in
+      record {
+        test = single_stands code (place i) (place i + 3) (Insn.Branch (opposite op) (pos 8)) (branch (opposite op)) [] (place (i + 1) ∷ []) (at_first code (place i) first second a)
+          (subst (λ (found : Option Form). FitsBranch found (pos 8)) (sym opp) eight) tt refl refl (ap (λ (z : ℤ). z ∷ []) (over_next (place i) (place (i + 1)) next)) (ap (λ (n : ℕ). place i + n) three);
+        over = single_stands code (place i + 3) (place (i + 1)) (Insn.Branch goto_w (d -ℤ pos 3)) (branch goto_w) [] (place t ∷ []) there
+          (subst (λ (found : Option Form). FitsBranch found (d -ℤ pos 3)) (sym goto_w_form) (fits_over (place t) (place i) (small t le) (small i within))) tt refl refl (ap (λ (z : ℤ). z ∷ []) (back_over (place i) (place t)))
+          (omega (arith, long_length goto_w (d -ℤ pos 3) goto_w_form));
+      }
+  widened_stands_by false op t test short a le next =
+      let form : form_of (wide_jump op) ≡ Some Form.WideBranch = jump_form (eqb op goto) in
+      let d : ℤ = distance place i t in
+      single_stands code (place i) (place (i + 1)) (Insn.Branch (wide_jump op) d) (branch (wide_jump op)) [] (place t ∷ []) a
+      (subst (λ (found : Option Form). FitsBranch found d) (sym form) (fits_32 (place t) (place i) (small t le) (small i within))) tt refl refl (ap (λ (z : ℤ). z ∷ []) (back (place i) (place t)))
+      (omega (arith, long_length (wide_jump op) d form))
+
+  branch_widened : (op : ℕ) (offset : ℤ) (keys : List ℤ) (to : List ℕ) → is_short op ≡ true → At code (place i) (widened_bytes (Insn.Branch op offset) (distance place i (get_or to 0 0))) → length to ≡ 1 → AllByRecursion (λ (t : ℕ). t ≤ count) to
+      → place (i + 1) ≡ place i + branch_size true op → StandsWide code (place i) (place (i + 1)) (Insn.Branch op offset) (map place to)
+  branch_widened op offset keys [] short a one all next = absurd (omega arith)
+  branch_widened op offset keys (t ∷ []) short a one all next = widened_stands_by (is_test op) op t refl short a all.0 next
+  branch_widened op offset keys (t ∷ u ∷ to) short a one all next = absurd (omega arith)
+
+  widened_stands : (insn : Insn) (jump : Jump ℕ) → At code (place i) (widened_bytes insn (distance place i (get_or jump.to 0 0))) → Leads insn jump → AllByRecursion (λ (t : ℕ). t ≤ count) jump.to → is_short_insn insn ≡ true
+      → place (i + 1) ≡ behind_insn true (place i) insn (length jump.keys) → StandsWide code (place i) (place (i + 1)) insn (map place jump.to)
+  widened_stands (Insn.Branch op offset) jump a leads all short next = branch_widened op offset jump.keys jump.to short a leads.1.1 all next
+  widened_stands _ jump a leads all short next = absurd cc
+
+  pub row_stands : (w : Bool) (row : Row) → At code (place i) (row_bytes place i w row) → IsRow count row → Fit row.jump.keys → (w ≡ true → is_short_insn row.insn ≡ true) → (w ≡ false → is_far place i row ≡ false)
+      → place (i + 1) ≡ behind w (place i) row → place (i + 1) < 2 ^ 16 → RowStands code place i w row
+  row_stands true row a is fit short near next end = widened_stands row.insn row.jump a is.leads is.within (short refl) next
+  row_stands false row a is fit short near next end = narrow_stands row.insn row.jump a is.leads fit is.within (near refl) next end
