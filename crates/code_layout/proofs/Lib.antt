@@ -11,3 +11,4 @@ pub mod Rising
 pub mod Words
 pub mod Standing
 pub mod Laying
+pub mod Layable
