@@ -6,3 +6,6 @@ pub mod Table
 pub mod Walking
 pub mod Parts
 pub mod Taken
+pub mod Branches
+pub mod Placing
+pub mod Rounds
