@@ -12,3 +12,6 @@ pub mod Words
 pub mod Standing
 pub mod Laying
 pub mod Layable
+pub mod Branches
+pub mod Placing
+pub mod Rounds

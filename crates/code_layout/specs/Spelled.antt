@@ -88,18 +88,6 @@ pub record ArePlaces (rows : List Row) (wide : List Bool) (places : List ℕ) : 
   pub count : length places ≡ length rows + 1
   pub each : (i : ℕ) → i ≤ length rows → get_or places i 0 ≡ place_of rows wide i
 
--- the length does not fit 32 bits
-pub record Overflows (rows : List Row) (n : ℕ) : Type 0 where
-  pub wide : List Bool
-  pub widened : AreWidened rows wide
-  pub long : 2 ^ 32 ≤ end_of rows wide
-  pub told : n ≡ 2 ^ 32 - 1
-
-abbrev pub IsOverflow : List Row → LayoutFault → Type 0
-IsOverflow rows (faults.TooLong n) = Overflows rows n
-IsOverflow rows (faults.TooManyEntries n) = ⊥
-IsOverflow rows faults.Memory = Unit {0}
-
 -- the place of a row as a list of places has it
 abbrev pub place_in : List ℕ → ℕ → ℕ
 place_in places i = get_or places i 0

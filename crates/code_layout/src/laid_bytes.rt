@@ -12,7 +12,7 @@ pub(crate) fn laid_bytes(
     alloc: Global,
     rows: &[Row],
     wide: &[bool],
-    places: &[u32],
+    places: &[u64],
 ) -> Result<Vec<u8>, AllocError>
     requires are { AreRows rows.now }
     requires widened { AreWidened rows.now wide.now }

@@ -17,7 +17,7 @@ use std::alloc::{AllocError, Global};
 pub(crate) fn laid_entries(
     alloc: Global,
     starts: &[u32],
-    places: &[u32],
+    places: &[u64],
     blocks: &[Block],
     entries: &[CodeEntry],
 ) -> Result<Vec<ExceptionEntry>, AllocError>
@@ -34,7 +34,7 @@ pub(crate) fn laid_entries(
 pub(crate) fn laid_attributes(
     alloc: Global,
     starts: &[u32],
-    places: &[u32],
+    places: &[u64],
     blocks: &[Block],
     lines: &[LineTable],
     variables: &[VariableTable],

@@ -3,6 +3,7 @@
 #![tactic(auto)]
 
 mod block;
+mod branch;
 mod fault;
 mod jumps;
 mod laid_bytes;
@@ -10,6 +11,7 @@ mod laid_tables;
 mod layout;
 mod layout_fault;
 mod method_code;
+mod places;
 mod row;
 mod tables;
 mod taking;
