@@ -3,7 +3,9 @@ use Rattle.std.proofs.Common.{◌≡◌, ℕ, zero, suc, ◌+◌, ◌<◌, ◌�
 use Rattle.std.proofs.Math.Seq.{drop-cons, get_or-append_seam}
 use Rattle.std.proofs.Math.ListN.{get_or-append}
 use Rattle.std.proofs.lemmas.Bool.{cases_eq}
-use Rattle.std.specs.Prelude.{Option, Some}
+use Rattle.std.specs.Prelude.{Option, Some, FitsSigned}
+use Rattle.std.specs.Int.{w32}
+use Rattle.code_layout.specs.Spelled.{HaveKeys}
 use Rattle.std.specs.List.{AllZip, AllByRecursion}
 use Rattle.opcode_table.specs.declared.insn.Insn.{Insn}
 use Rattle.code_layout.specs.declared.method_code.Jump.{Jump}
@@ -41,12 +43,13 @@ start_within blocks k b lt at = omega (arith, start_next blocks k b lt at, start
 -- one more start
 pub starts_more : (blocks : List Block) (s s' : List ℕ) (k next : ℕ) → length s ≡ k + 1 → ((j : ℕ) → j ≤ k → get_or s j 0 ≡ start_of blocks j) → next ≡ start_of blocks (k + 1) → s' ≡ s ++ next ∷ []
     → (length s' ≡ k + 1 + 1) × ((j : ℕ) → j ≤ k + 1 → get_or s' j 0 ≡ start_of blocks j)
-starts_more blocks s s' k next count each is more =
-    (omega (arith, simp length-append at (ap length more)),
-    λ j le. ap (λ (l : List ℕ). get_or l j 0) more ∙ elim (cases_eq j (k + 1)) [
-      | inl e ↦ (let at : get_or (s ++ next ∷ []) (length s) 0 ≡ next = get_or-append_seam s next [] 0 in let l : j ≡ length s = omega arith in ap (λ (n : ℕ). get_or (s ++ next ∷ []) n 0) l ∙ at ∙ is ∙ ap (start_of blocks) (sym e))
-      | inr ne ↦ (let lt : j < length s = omega arith in get_or-append s (next ∷ []) 0 j lt ∙ each j (omega arith))
-    ])
+starts_more blocks s s' k next count each is more = (
+  omega (arith, simp length-append at (ap length more)),
+  λ j le. ap (λ (l : List ℕ). get_or l j 0) more ∙ elim (cases_eq j (k + 1)) [
+    | inl e ↦ (let at : get_or (s ++ next ∷ []) (length s) 0 ≡ next = get_or-append_seam s next [] 0 in let l : j ≡ length s = omega arith in ap (λ (n : ℕ). get_or (s ++ next ∷ []) n 0) l ∙ at ∙ is ∙ ap (start_of blocks) (sym e))
+    | inr ne ↦ (let lt : j < length s = omega arith in get_or-append s (next ∷ []) 0 j lt ∙ each j (omega arith))
+  ],
+)
 
 pub all_at : {X : Type 0} (P : X → Type 0) (xs : List X) (i : ℕ) (x : X) → AllByRecursion P xs → i < length xs → x ≡ get_or xs i x → P x
 all_at P [] i x all lt is = absurd (omega arith)
@@ -107,3 +110,15 @@ blocks_more blocks i start b done done' whole lt is at more before =
 
 pub blocks_first : (blocks : List Block) (done : List Row) → done ≡ [] → done ++ rows_from blocks (start_of blocks 0) blocks ≡ rows blocks
 blocks_first blocks done is = ap (λ (l : List Row). l ++ rows_from blocks (start_of blocks 0) blocks) is ∙ ap (λ (m : ℕ). rows_from blocks m blocks) (start_zero blocks)
+
+-- ---- keys
+
+pub no_keys : (rows : List Row) → rows ≡ [] → HaveKeys rows
+no_keys rows is = subst HaveKeys (sym is) tt
+
+keys_append : (rows : List Row) (row : Row) → HaveKeys rows → AllByRecursion (FitsSigned w32) row.jump.keys → HaveKeys (rows ++ row ∷ [])
+keys_append [] row have here = (here, tt)
+keys_append (r ∷ rows) row have here = (have.0, keys_append rows row have.1 here)
+
+pub keys_more : (rows rows' : List Row) (insn : Insn) (jump : Jump ℕ) → HaveKeys rows → AllByRecursion (FitsSigned w32) jump.keys → rows' ≡ rows ++ record { insn = insn; jump = jump } ∷ [] → HaveKeys rows'
+keys_more rows rows' insn jump have here more = subst HaveKeys (sym more) (keys_append rows (record { insn = insn; jump = jump }) have here)
