@@ -63,23 +63,23 @@ fn laid(
     blocks: &[Block],
     old: &MethodCode,
     starts: &[u32],
-    rows: &[Row],
+    all: &[Row],
     layout: &Layout,
 ) -> Result<CodeAttr, AllocError>
     requires layable { AreLayable blocks.now old.now }
     requires starts { AreStarts blocks.now starts.now }
-    requires rows { rows.now ≡ rows blocks.now }
-    requires keys { HaveKeys rows.now }
-    requires widened { AreWidened rows.now layout.now.wide.items }
-    requires places { ArePlaces rows.now layout.now.wide.items layout.now.places.items }
-    requires fits { end_of rows.now layout.now.wide.items < 2 ^ 16 }
+    requires rows { all.now ≡ rows blocks.now }
+    requires keys { HaveKeys all.now }
+    requires widened { AreWidened all.now layout.now.wide.items }
+    requires places { ArePlaces all.now layout.now.wide.items layout.now.places.items }
+    requires fits { end_of all.now layout.now.wide.items < 2 ^ 16 }
     requires few { entry_count blocks.now old.now < 2 ^ 16 }
     ensures laid { IfOk result (IsLaidOut blocks.now old.now) }
     ensures short { IfOk result (λ code. length code.code ≤ most_bytes blocks.now + 3 * switches blocks.now) }
     ensures few { IfOk result (λ code. length code.entries ≡ own_count blocks.now + length old.now.entries) }
 {
     let places = layout.places.as_slice();
-    let code = laid_bytes(alloc, rows, layout.wide.as_slice(), places)?;
+    let code = laid_bytes(alloc, all, layout.wide.as_slice(), places)?;
     let entries = laid_entries(alloc, starts, places, blocks, old.entries.as_slice())?;
     let lines = old.lines.as_slice();
     let variables = old.variables.as_slice();
