@@ -9,3 +9,7 @@ pub mod Taken
 pub mod Branches
 pub mod Placing
 pub mod Rounds
+pub mod Starts
+pub mod Rising
+pub mod Putting
+pub mod Standing
