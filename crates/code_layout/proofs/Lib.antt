@@ -6,10 +6,14 @@ pub mod Table
 pub mod Walking
 pub mod Parts
 pub mod Taken
+pub mod Starts
+pub mod Rising
+pub mod Words
+pub mod Standing
+pub mod Laying
+pub mod Layable
 pub mod Branches
 pub mod Placing
 pub mod Rounds
-pub mod Starts
-pub mod Rising
 pub mod Putting
-pub mod Standing
+pub mod Settling

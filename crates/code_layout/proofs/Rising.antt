@@ -74,13 +74,15 @@ place_at_most pc rows wide i j le =
       | inr ne ↦ (let lt = place_rises pc rows wide i j (omega arith) in omega arith)
     ]
 
+pub place_first : (pc : ℕ) (rows : List Row) (wide : List Bool) → place_from pc rows wide 0 ≡ pc
+place_first pc [] wide = omega arith
+place_first pc (row ∷ rows) wide = refl
+
 -- a row, and whether it is wide, are behind the place of the one before
 pub place_next : (pc : ℕ) (rows : List Row) (wide : List Bool) (i : ℕ) (row : Row) → i < length rows → row ≡ get_or rows i row
     → place_from pc rows wide (suc i) ≡ behind (get_or wide i false) (place_from pc rows wide i) row
 place_next pc [] wide i row lt is = absurd (omega arith)
-place_next pc (r ∷ []) [] zero row lt is = ap (behind false pc) (sym is)
-place_next pc (r ∷ []) (w ∷ wide) zero row lt is = ap (behind w pc) (sym is)
-place_next pc (r ∷ s ∷ rows) [] zero row lt is = ap (behind false pc) (sym is)
-place_next pc (r ∷ s ∷ rows) (w ∷ wide) zero row lt is = ap (behind w pc) (sym is)
+place_next pc (r ∷ rows) [] zero row lt is = place_first (behind false pc r) rows [] ∙ ap (behind false pc) (sym is)
+place_next pc (r ∷ rows) (w ∷ wide) zero row lt is = place_first (behind w pc r) rows wide ∙ ap (behind w pc) (sym is)
 place_next pc (r ∷ rows) [] (suc i) row lt is = place_next (behind false pc r) rows [] i row (omega arith) is
 place_next pc (r ∷ rows) (w ∷ wide) (suc i) row lt is = place_next (behind w pc r) rows wide i row (omega arith) is

@@ -1,165 +1,319 @@
--- Rows of a layout that is settled can be put, and their bytes are those of the layout.
-use Rattle.std.proofs.Common.{◌≡◌, ℕ, zero, suc, ◌+◌, ◌-◌, ◌*◌, ◌^◌, ◌<◌, ◌≤◌, Bool, true, false, List, [], ◌∷◌, ◌++◌, length, map, get_or, take, drop, Option, Some, None, arith, refl, sym, ap, subst, ◌∙◌, add-one, append_assoc, append-nil, ℤ, pos, negsuc, inl, inr}
-use Rattle.std.specs.Prelude.{◌||◌, ◌&&◌, ◌-ℤ◌, FitsSigned, int_lt}
+-- A row whose bytes stand at its place stands there.
+use Rattle.std.proofs.Common.{◌≡◌, ℕ, zero, suc, ◌+◌, ◌-◌, ◌*◌, ◌^◌, ◌<◌, ◌≤◌, Bool, true, false, not, cond, eqb, ◌&&◌, ◌||◌, List, [], ◌∷◌, ◌++◌, length, get_or, drop, take, map, refl, sym, ap, ◌∙◌, arith, subst, append-nil, add-one, length-append, ℤ, pos, negsuc, ◌+ℤ◌, ◌-ℤ◌, Ok, Err, inl, inr}
+use Rattle.std.specs.Prelude.{FitsSigned, Option, Some, None, int_lt, slice_get}
 use Rattle.std.specs.Int.{w16, w32}
 use Rattle.std.specs.List.{AllByRecursion}
-use Rattle.std.proofs.lemmas.Bool.{cases_lt}
+use Rattle.std.proofs.lemmas.List.{length-map, length-replicate}
+use Rattle.std.proofs.lemmas.Bool.{cases_lt, agree_below, agree_below_at, and_from, or_parts}
 use Rattle.std.proofs.lemmas.Int.{ints}
 use Rattle.opcode_table.specs.declared.insn.Insn.{Insn}
-use Rattle.opcode_table.specs.declared.insn.Insn.TheVariants as insn
 use Rattle.opcode_table.specs.declared.form.Form.{Form}
-use Rattle.opcode_table.specs.Table.{form_of}
-use Rattle.opcode_table.specs.Decoding.{table_place}
-use Rattle.opcode_table.specs.Spelling.{FitsBranch, IsBranchForm}
+use Rattle.opcode_table.specs.Table.{Opcode, opcodes, opcode, joined, form_in, form_of}
+use Rattle.opcode_table.specs.Decoding.{Decoded, decoded, table_place}
+use Rattle.opcode_table.specs.Spelling.{spelling, branch_bytes, FitsBranch, IsBranchForm, IsInsn, IsSingle, IsShaped}
+use Rattle.opcode_table.specs.DecodedAgain.{decoded_where_spelled}
+use Rattle.class_file.specs.Code.{offsets, numbered}
 use Rattle.code_layout.specs.declared.method_code.Jump.{Jump}
 use Rattle.code_layout.specs.declared.row.Row.{Row}
-use Rattle.code_layout.specs.Blocks.{Leads, HasJump}
-use Rattle.code_layout.specs.Places.{is_short, is_short_form, passes, is_far_insn, is_far, behind, behind_insn, first_wide, other_wide, widen_from, widen, place_of, place_from, end_of, AreWidened}
-use Rattle.code_layout.specs.Spelled.{IsRow, AreRows, ArePlaces, place_in, IsShortInsn, IsReached, CanStand, distance, row_bytes, narrow_bytes, widened_bytes, bytes_from, bytes_of}
-use Rattle.code_layout.proofs.Placing.{first_is, other_is, place_step}
-use Rattle.code_layout.proofs.Rising.{place_at_most}
-use Rattle.code_layout.proofs.Rounds.{far_agrees, wide_is_short}
+use Rattle.code_layout.specs.Apart.{keys_of}
+use Rattle.code_layout.specs.Blocks.{HasJump, Leads, Count}
+use Rattle.code_layout.specs.Places.{goto, goto_w, wide_jump, is_test, opposite, is_short_form, is_short, narrow_size, branch_size, behind_insn, behind, passes, is_far_insn, is_far}
+use Rattle.code_layout.specs.Laid.{bare, branch, Stands, StandsOver, StandsWidened, StandsWide, RowStands}
+use Rattle.code_layout.specs.Spelled.{IsRow, padding, words, table_bytes, pairs_bytes, lookup_bytes, narrow_bytes, widened_bytes_by, widened_bytes, distance, row_bytes}
+use Rattle.code_layout.proofs.Words.{At, at_first, at_second, at_room, Fit, Reads, words_length, table_reads, lookup_reads}
 
--- ---- an element of a list of which all are so
+-- ---- opcodes of branches
 
-pub all_at : {A : Type 0} (P : A → Type 0) (xs : List A) (i : ℕ) (x : A) → AllByRecursion P xs → i < length xs → x ≡ get_or xs i x → P x
-all_at P [] i x all lt is = absurd (omega arith)
-all_at P (y ∷ xs) zero x all lt is = subst P (sym is) all.0
-all_at P (y ∷ xs) (suc i) x all lt is = all_at P xs i x all.1 (omega arith) is
+past_end : {X : Type 0} (xs : List (Option X)) (i : ℕ) → length xs ≤ i → joined (slice_get xs i) ≡ None
+past_end [] i le = refl
+past_end (x ∷ xs) zero le = absurd (omega arith)
+past_end (x ∷ xs) (suc i) le = past_end xs i (omega arith)
 
-past : (xs : List ℕ) (k : ℕ) → length xs ≤ k → get_or xs k 0 ≡ 0
-past [] k le = refl
-past (x ∷ xs) zero le = absurd (omega arith)
-past (x ∷ xs) (suc k) le = past xs k (omega arith)
+no_opcode : (op : ℕ) → 202 ≤ op → form_of op ≡ None
+unfolding opcode
+no_opcode op le = ap form_in (past_end opcodes op le)
 
--- ---- places are small
+short_byte : (op : ℕ) → is_short op ≡ true → op < 256
+short_byte op is =
+    elim (cases_lt op 202) [
+      | inl lt ↦ omega arith
+      | inr le ↦ (let none = ap is_short_form (no_opcode op le) in absurd cc)
+    ]
 
-module _ (rows : List Row) (wide : List Bool) (places : List ℕ) (laid : ArePlaces rows wide places) (small : end_of rows wide < 2 ^ 16) where
-  pub places_small : (k : ℕ) → place_in places k < 2 ^ 16
-  places_small k =
-      elim (cases_lt k (length rows + 1)) [
-        | inl within ↦ (let e = laid.each k (omega arith) in let le = place_at_most 0 rows wide k (length rows) (omega arith) in omega arith)
-        | inr beyond ↦ (let c = laid.count in let e = past places k (omega arith) in omega arith)
-      ]
+implied : (a b : Bool) → (not a || b) ≡ true → a ≡ true → b ≡ true
+implied true b h is = h
+implied false b h is = absurd cc
 
-  keys_of_insn : (w : Bool) (pc : ℕ) (found : Insn) (jump : Jump ℕ) → HasJump found jump → behind_insn w pc found (length jump.keys) < 2 ^ 16 → length jump.keys < 2 ^ 16
-  keys_of_insn w pc (insn.TableSwitch table) jump has lt = omega arith
-  keys_of_insn w pc (insn.LookupSwitch table) jump has lt = omega arith
-  keys_of_insn w pc _ jump has lt = let none = ap length has.0 in omega arith
+opposites : agree_below (λ op. not (is_short op && is_test op) || is_short (opposite op)) (λ op. true) 256 ≡ true
+unfolding opcode
+opposites = refl
 
-  keys_few : (i : ℕ) (row : Row) → i < length rows → row ≡ get_or rows i row → HasJump row.insn row.jump → length row.jump.keys < 2 ^ 16
-  keys_few i row lt is has =
-      let step = place_step rows wide i row lt is in
-      let le = place_at_most 0 rows wide (i + 1) (length rows) (omega arith) in
-      keys_of_insn (get_or wide i false) (place_of rows wide i) row.insn row.jump has (omega arith)
+-- the opposite of a test has two bytes of offset too
+opposite_short : (op : ℕ) → is_short op ≡ true → is_test op ≡ true → is_short (opposite op) ≡ true
+opposite_short op short test =
+    implied (is_short op && is_test op) (is_short (opposite op))
+    (agree_below_at (λ op. not (is_short op && is_test op) || is_short (opposite op)) (λ op. true) 256 op opposites (short_byte op short))
+    (and_from (is_short op) (is_test op) short test)
 
--- ---- what isn't widened fits
+short_form : (found : Option Form) → is_short_form found ≡ true → found ≡ Some Form.Branch
+short_form (Some Form.Branch) is = refl
+short_form _ is = absurd cc
 
-widen_at : (place : ℕ → ℕ) (n : ℕ) (rows : List Row) (wide : List Bool) (i : ℕ) (row : Row) → i < length rows → row ≡ get_or rows i row → get_or (widen_from place n rows wide) i false ≡ (get_or wide i false || is_far place (n + i) row)
-widen_at place n [] wide i row lt is = absurd (omega arith)
-widen_at place n (r ∷ rows) wide zero row lt is =
-    ap (λ (w : Bool). w || is_far place n r) (first_is wide) ∙ ap (λ (q : Row). get_or wide 0 false || is_far place n q) (sym is)
-    ∙ ap (λ (k : ℕ). get_or wide 0 false || is_far place k row) (let e : n ≡ n + 0 = omega arith in e)
-widen_at place n (r ∷ rows) wide (suc i) row lt is =
-    widen_at place (n + 1) rows (other_wide wide) i row (omega arith) is
-    ∙ ap (λ (w : Bool). w || is_far place (n + 1 + i) row) (other_is wide i)
-    ∙ ap (λ (k : ℕ). get_or wide (suc i) false || is_far place k row) (let e : n + 1 + i ≡ n + suc i = omega arith in e)
+goto_w_form : form_of goto_w ≡ Some Form.WideBranch
+unfolding opcode
+goto_w_form = refl
 
-not_far : (w far : Bool) → (w || far) ≡ w → w ≡ false → far ≡ false
-not_far true far same is = absurd cc
-not_far false far same is = same
+jump_form : (b : Bool) → form_of (cond b 200 201) ≡ Some Form.WideBranch
+unfolding opcode
+jump_form true = refl
+jump_form false = refl
 
-settled_at : (rows : List Row) (wide : List Bool) (i : ℕ) (row : Row) → widen rows wide ≡ wide → i < length rows → row ≡ get_or rows i row → get_or wide i false ≡ false → is_far (place_of rows wide) i row ≡ false
-settled_at rows wide i row settled lt is w =
-    let at = widen_at (place_of rows wide) 0 rows wide i row lt is in
-    let same : 0 + i ≡ i = omega arith in
-    not_far (get_or wide i false) (is_far (place_of rows wide) i row)
-    (ap (λ (k : ℕ). get_or wide i false || is_far (place_of rows wide) k row) (sym same) ∙ sym at ∙ ap (λ (l : List Bool). get_or l i false) settled) w
+-- ---- lengths
 
-near_fits : (d : ℤ) → passes d ≡ false → FitsSigned w16 d
-near_fits (pos n) near = grind (arith, ints)
-near_fits (negsuc n) near = grind (arith, ints)
+short_length : (op : ℕ) (offset : ℤ) → form_of op ≡ Some Form.Branch → length (spelling (Insn.Branch op offset)) ≡ 3
+unfolding spelling
+short_length op offset is = ap (λ (found : Option Form). length (op ∷ branch_bytes found offset)) is
 
-form_fits : (found : Option Form) (d : ℤ) → (is_short_form found && passes d) ≡ false → IsBranchForm found → FitsSigned w32 d → FitsBranch found d
-form_fits (Some Form.Branch) d near form fits = near_fits d near
-form_fits (Some Form.WideBranch) d near form fits = fits
-form_fits _ d near form fits = absurd form
+long_length : (op : ℕ) (offset : ℤ) → form_of op ≡ Some Form.WideBranch → length (spelling (Insn.Branch op offset)) ≡ 5
+unfolding spelling
+long_length op offset is = ap (λ (found : Option Form). length (op ∷ branch_bytes found offset)) is
 
-reaches : (place : ℕ → ℕ) (i : ℕ) (found : Insn) (jump : Jump ℕ) → Leads found jump → is_far_insn place i found jump.to ≡ false → FitsSigned w32 (distance place i (get_or jump.to 0 0)) → IsReached false found (distance place i (get_or jump.to 0 0))
-reaches place i (insn.Branch op offset) jump leads far fits = form_fits (form_of op) (distance place i (get_or jump.to 0 0)) far leads.0 fits
-reaches place i _ jump leads far fits = tt
+form_length : (op : ℕ) (offset : ℤ) (found : Option Form) → IsBranchForm found → length (op ∷ branch_bytes found offset) ≡ cond (is_short_form found) 3 5
+form_length op offset (Some Form.Branch) is = refl
+form_length op offset (Some Form.WideBranch) is = refl
+form_length op offset _ is = absurd is
 
-small_distance : (a b : ℕ) → a < 2 ^ 16 → b < 2 ^ 16 → FitsSigned w32 (pos a -ℤ pos b)
-small_distance a b p q = omega (arith, ints)
+branch_length : (op : ℕ) (offset : ℤ) → IsBranchForm (form_of op) → length (spelling (Insn.Branch op offset)) ≡ narrow_size op
+unfolding spelling
+branch_length op offset is = form_length op offset (form_of op) is
 
-reached_by : (w : Bool) (found : Insn) (d : ℤ) → (w ≡ true → IsShortInsn found) → (w ≡ false → IsReached false found d) → IsReached w found d
-reached_by true found d wide narrow = wide refl
-reached_by false found d wide narrow = narrow refl
+padding_length : (op pc : ℕ) (bytes : List ℕ) → pc + length (op ∷ padding pc ++ bytes) ≡ table_place pc + length bytes
+padding_length op pc bytes = omega (arith, length-append (padding pc) bytes, length-replicate (table_place pc - (pc + 1)) (let z : ℕ = 0 in z))
 
-pub can_stand : (rows : List Row) (wide : List Bool) (places : List ℕ) (i : ℕ) (row : Row) → AreRows rows → AreWidened rows wide → ArePlaces rows wide places → end_of rows wide < 2 ^ 16 → i < length rows → row ≡ get_or rows i row → CanStand places i (get_or wide i false) row
-can_stand rows wide places i row all widened laid small lt is =
-    let valid = all_at (IsRow (length rows)) rows i row all lt is in
-    let count = laid.count in
-    let same : length rows ≡ length places - 1 = omega arith in
-    let far : is_far (place_in places) i row ≡ is_far (place_of rows wide) i row = far_agrees (place_in places) (place_of rows wide) (length rows) laid.each i row.insn row.jump.to (omega arith) valid.within in
-    record {
-      valid = subst (λ (n : ℕ). IsRow n row) same valid;
-      there = omega arith;
-      small = places_small rows wide places laid small;
-      few = keys_few rows wide places laid small i row lt is valid.leads.1;
-      reached = reached_by (get_or wide i false) row.insn (distance (place_in places) i (get_or row.jump.to 0 0)) (wide_is_short rows wide i row widened lt is)
-          (λ w. reaches (place_in places) i row.insn row.jump valid.leads (far ∙ settled_at rows wide i row widened.settled lt is w) (small_distance _ _ (places_small rows wide places laid small (get_or row.jump.to 0 0)) (places_small rows wide places laid small i)));
-    }
+table_length : (pc op : ℕ) (keys offs : List ℤ) → Count keys → length offs ≡ length keys + 1 → pc + length (op ∷ padding pc ++ table_bytes keys offs) ≡ table_place pc + (12 + 4 * length keys)
+table_length pc op [] offs count all = absurd count
+table_length pc op (low ∷ keys) [] count all = absurd (omega arith)
+table_length pc op (low ∷ keys) (d ∷ offs) count all =
+    omega (arith, padding_length op pc (words (d ∷ low ∷ (low +ℤ pos (length keys)) ∷ offs)), words_length (d ∷ low ∷ (low +ℤ pos (length keys)) ∷ offs))
 
--- ---- the bytes of rows, one row more
+pairs_bytes_length : (keys offs : List ℤ) → length offs ≡ length keys → length (pairs_bytes keys offs) ≡ 8 * length keys
+pairs_bytes_length [] offs all = refl
+pairs_bytes_length (k ∷ keys) [] all = absurd (omega arith)
+pairs_bytes_length (k ∷ keys) (o ∷ offs) all = omega (arith, pairs_bytes_length keys offs (omega arith))
 
-module _ (place : ℕ → ℕ) where
-  bytes_end : (n i : ℕ) (rows : List Row) (wide : List Bool) (row : Row) → i < length rows → row ≡ get_or rows i row → bytes_from place n (take (suc i) rows) wide ≡ bytes_from place n (take i rows) wide ++ row_bytes place (n + i) (get_or wide i false) row
-  bytes_end n i [] wide row lt is = absurd (omega arith)
-  bytes_end n zero (r ∷ rows) wide row lt is =
-      append-nil (row_bytes place n (first_wide wide) r)
-      ∙ ap (λ (w : Bool). row_bytes place n w r) (first_is wide)
-      ∙ ap (λ (q : Row). row_bytes place n (get_or wide 0 false) q) (sym is)
-      ∙ ap (λ (k : ℕ). row_bytes place k (get_or wide 0 false) row) (let e : n ≡ n + 0 = omega arith in e)
-  bytes_end n (suc i) (r ∷ rows) wide row lt is =
-      ap (λ (l : List ℕ). row_bytes place n (first_wide wide) r ++ l)
-      (bytes_end (n + 1) i rows (other_wide wide) row (omega arith) is
-      ∙ ap (λ (w : Bool). bytes_from place (n + 1) (take i rows) (other_wide wide) ++ row_bytes place (n + 1 + i) w row) (other_is wide i)
-      ∙ ap (λ (k : ℕ). bytes_from place (n + 1) (take i rows) (other_wide wide) ++ row_bytes place k (get_or wide (suc i) false) row) (let e : n + 1 + i ≡ n + suc i = omega arith in e))
-      ∙ sym (append_assoc (row_bytes place n (first_wide wide) r) (bytes_from place (n + 1) (take i rows) (other_wide wide)) (row_bytes place (n + suc i) (get_or wide (suc i) false) row))
+lookup_length : (pc op : ℕ) (keys offs : List ℤ) → length offs ≡ length keys + 1 → pc + length (op ∷ padding pc ++ lookup_bytes keys offs) ≡ table_place pc + (8 + 8 * length keys)
+lookup_length pc op keys [] all = absurd (omega arith)
+lookup_length pc op keys (d ∷ offs) all = omega (arith, padding_length op pc (lookup_bytes keys (d ∷ offs)), pairs_bytes_length keys offs (omega arith))
 
-  pub bytes_more : (i : ℕ) (rows : List Row) (wide : List Bool) (row : Row) (out out' : List ℕ) → i < length rows → row ≡ get_or rows i row → out ≡ bytes_from place 0 (take i rows) wide → out' ≡ out ++ row_bytes place i (get_or wide i false) row → out' ≡ bytes_from place 0 (take (i + 1) rows) wide
-  bytes_more i rows wide row out out' lt is so_far more =
-      more ∙ ap (λ (l : List ℕ). l ++ row_bytes place i (get_or wide i false) row) so_far
-      ∙ ap (λ (k : ℕ). bytes_from place 0 (take i rows) wide ++ row_bytes place k (get_or wide i false) row) (let e : i ≡ 0 + i = omega arith in e)
-      ∙ sym (bytes_end 0 i rows wide row lt is)
-      ∙ ap (λ (k : ℕ). bytes_from place 0 (take k rows) wide) (let e : suc i ≡ i + 1 = omega arith in e)
+-- the bytes of a row that is not widened reach to the place behind it
+pub narrow_length : (pc : ℕ) (i : Insn) (jump : Jump ℕ) (offs : List ℤ) → Leads i jump → length offs ≡ length jump.to → pc + length (narrow_bytes pc i jump.keys offs) ≡ behind_insn false pc i (length jump.keys)
+narrow_length pc (Insn.Plain op) jump offs leads all = refl
+narrow_length pc (Insn.Bipush value) jump offs leads all = refl
+narrow_length pc (Insn.Sipush value) jump offs leads all = refl
+narrow_length pc (Insn.Local op index wide) jump offs leads all = refl
+narrow_length pc (Insn.Iinc index by wide) jump offs leads all = refl
+narrow_length pc (Insn.Pool op index) jump offs leads all = refl
+narrow_length pc (Insn.Interface index count last) jump offs leads all = refl
+narrow_length pc (Insn.NewArray code) jump offs leads all = refl
+narrow_length pc (Insn.Multi index dims) jump offs leads all = refl
+narrow_length pc (Insn.Branch op offset) jump offs leads all = ap (λ (n : ℕ). pc + n) (branch_length op (get_or offs 0 (pos 0)) leads.0)
+narrow_length pc (Insn.TableSwitch table) jump offs leads all = let h = leads.1.1 in table_length pc 170 jump.keys offs leads.1.0 (omega arith)
+narrow_length pc (Insn.LookupSwitch table) jump offs leads all = let h = leads.1.1 in lookup_length pc 171 jump.keys offs (omega arith)
 
--- ---- places that agree give the same bytes
+widened_length_by : (b : Bool) (pc op : ℕ) (d : ℤ) → is_test op ≡ b → is_short op ≡ true → pc + length (widened_bytes_by b op d) ≡ pc + cond b 8 5
+widened_length_by true pc op d test short =
+    let is = short_form (form_of (opposite op)) (opposite_short op short test) in
+    omega (arith, length-append (spelling (Insn.Branch (opposite op) (pos 8))) (spelling (Insn.Branch goto_w (d -ℤ pos 3))), short_length (opposite op) (pos 8) is, long_length goto_w (d -ℤ pos 3) goto_w_form)
+widened_length_by false pc op d test short = ap (λ (n : ℕ). pc + n) (long_length (wide_jump op) d (jump_form (eqb op goto)))
 
-module _ (f g : ℕ → ℕ) (count : ℕ) (agree : (k : ℕ) → k ≤ count → f k ≡ g k) where
-  distance_agrees : (i to : ℕ) → i ≤ count → to ≤ count → distance f i to ≡ distance g i to
-  distance_agrees i to le le' = let a = agree i le in let b = agree to le' in rw (a, b) refl
+abbrev pub is_short_insn : Insn → Bool
+is_short_insn (Insn.Branch op offset) = is_short op
+is_short_insn _ = false
 
-  distances_agree : (i : ℕ) (to : List ℕ) → i ≤ count → AllByRecursion (λ (t : ℕ). t ≤ count) to → map (distance f i) to ≡ map (distance g i) to
-  distances_agree i [] le all = refl
-  distances_agree i (t ∷ to) le all = ap (λ (z : ℤ). z ∷ map (distance f i) to) (distance_agrees i t le all.0) ∙ ap (λ (l : List ℤ). distance g i t ∷ l) (distances_agree i to le all.1)
+pub widened_length : (pc : ℕ) (i : Insn) (keys : ℕ) (d : ℤ) → is_short_insn i ≡ true → pc + length (widened_bytes i d) ≡ behind_insn true pc i keys
+widened_length pc (Insn.Branch op offset) keys d short = widened_length_by (is_test op) pc op d refl short
+widened_length pc _ keys d short = absurd cc
 
-  first_within : (to : List ℕ) → AllByRecursion (λ (t : ℕ). t ≤ count) to → get_or to 0 0 ≤ count
-  first_within [] all = omega arith
-  first_within (t ∷ to) all = all.0
+-- ---- distances
 
-  row_agrees : (i : ℕ) (w : Bool) (row : Row) → i ≤ count → IsRow count row → row_bytes f i w row ≡ row_bytes g i w row
-  row_agrees i true row le valid = ap (widened_bytes row.insn) (distance_agrees i (get_or row.jump.to 0 0) le (first_within row.jump.to valid.within))
-  row_agrees i false row le valid =
-      ap (λ (pc : ℕ). narrow_bytes pc row.insn row.jump.keys (map (distance f i) row.jump.to)) (agree i le)
-      ∙ ap (λ (l : List ℤ). narrow_bytes (g i) row.insn row.jump.keys l) (distances_agree i row.jump.to le valid.within)
+back : (a b : ℕ) → pos a +ℤ (pos b -ℤ pos a) ≡ pos b
+back a b = grind (arith, ints)
 
-  bytes_agree : (n : ℕ) (rows : List Row) (wide : List Bool) → n + length rows ≤ count → AllByRecursion (IsRow count) rows → bytes_from f n rows wide ≡ bytes_from g n rows wide
-  bytes_agree n [] wide le all = refl
-  bytes_agree n (r ∷ rows) wide le all =
-      ap (λ (l : List ℕ). l ++ bytes_from f (n + 1) rows (other_wide wide)) (row_agrees n (first_wide wide) r (omega arith) all.0)
-      ∙ ap (λ (l : List ℕ). row_bytes g n (first_wide wide) r ++ l) (bytes_agree (n + 1) rows (other_wide wide) (omega arith) all.1)
+back_over : (a b : ℕ) → pos (a + 3) +ℤ ((pos b -ℤ pos a) -ℤ pos 3) ≡ pos b
+back_over a b = grind (arith, ints)
 
-pub bytes_are : (rows : List Row) (wide : List Bool) (places : List ℕ) → AreRows rows → ArePlaces rows wide places → bytes_from (place_in places) 0 rows wide ≡ bytes_of rows wide
-bytes_are rows wide places all laid = bytes_agree (place_in places) (place_of rows wide) (length rows) laid.each 0 rows wide (omega arith) all
+over_next : (a b : ℕ) → b ≡ a + 8 → pos a +ℤ pos 8 ≡ pos b
+over_next a b is = grind (arith, ints)
+
+fits_32 : (a b : ℕ) → a < 2 ^ 16 → b < 2 ^ 16 → FitsSigned w32 (pos a -ℤ pos b)
+fits_32 a b p q = grind (arith, ints)
+
+fits_over : (a b : ℕ) → a < 2 ^ 16 → b < 2 ^ 16 → FitsSigned w32 ((pos a -ℤ pos b) -ℤ pos 3)
+fits_over a b p q = grind (arith, ints)
+
+fits_16 : (d : ℤ) → passes d ≡ false → FitsSigned w16 d
+fits_16 (pos n) h = grind (arith, ints)
+fits_16 (negsuc n) h = grind (arith, ints)
+
+all_back : (place : ℕ → ℕ) (i : ℕ) (to : List ℕ) → map (λ offset. pos (place i) +ℤ offset) (map (distance place i) to) ≡ map pos (map place to)
+all_back place i [] = refl
+all_back place i (t ∷ to) =
+    ap (λ (z : ℤ). z ∷ map (λ offset. pos (place i) +ℤ offset) (map (distance place i) to)) (back (place i) (place t))
+    ∙ ap (λ (l : List ℤ). pos (place t) ∷ l) (all_back place i to)
+
+all_fit : (place : ℕ → ℕ) (i count : ℕ) (to : List ℕ) → ((j : ℕ) → j ≤ count → place j < 2 ^ 16) → i ≤ count → AllByRecursion (λ (t : ℕ). t ≤ count) to → Fit (map (distance place i) to)
+all_fit place i count [] small le all = tt
+all_fit place i count (t ∷ to) small le all = (fits_32 (place t) (place i) (small t all.0) (small i le), all_fit place i count to small le all.1)
+
+-- the last key of a tableswitch
+last_of : (xs : List ℤ) (y : ℤ) → Fit (xs ++ y ∷ []) → FitsSigned w32 y
+last_of [] y fit = fit.0
+last_of (x ∷ xs) y fit = last_of xs y fit.1
+
+last_fits : (keys : List ℤ) → Count keys → Fit keys → FitsSigned w32 (get_or keys 0 (pos 0) +ℤ pos (length keys - 1))
+last_fits [] count fit = absurd count
+last_fits (low ∷ keys) count fit =
+    let e : length keys ≡ length (low ∷ keys) - 1 = omega arith in
+    subst (λ (n : ℕ). FitsSigned w32 (low +ℤ pos n)) e (last_of (numbered (length keys) (λ i. low +ℤ pos i)) (low +ℤ pos (length keys)) (subst Fit count fit))
+
+count_fits : (n : ℕ) → n < 2 ^ 16 → FitsSigned w32 (pos n)
+count_fits n lt = omega arith
+
+-- ---- what stands
+
+single_stands : (code : List ℕ) (pc next : ℕ) (found i : Insn) (keys : List ℤ) (targets : List ℕ) → At code pc (spelling found) → IsInsn found → IsSingle found → bare found ≡ bare i → keys_of code found ≡ keys
+    → map (λ offset. pos pc +ℤ offset) (offsets code found) ≡ map pos targets → pc + length (spelling found) ≡ next → Stands code pc next i keys targets
+single_stands code pc next found i keys targets a valid single same keys_are leads falls = record {
+  found = found;
+  size = length (spelling found);
+  decodes = decoded_where_spelled code pc found a.rest a.is valid single;
+  same = same;
+  with_keys = keys_are;
+  leads = leads;
+  falls = falls;
+}
+
+plain_stands : (code : List ℕ) (pc next : ℕ) (i : Insn) (place : ℕ → ℕ) (jump : Jump ℕ) → At code pc (spelling i) → IsInsn i → IsSingle i → keys_of code i ≡ [] → offsets code i ≡ [] → (jump.keys ≡ []) × (jump.to ≡ []) → pc + length (spelling i) ≡ next
+    → Stands code pc next i jump.keys (map place jump.to)
+plain_stands code pc next i place jump a valid single no_keys no_offsets none falls =
+    single_stands code pc next i i jump.keys (map place jump.to) a valid single refl (no_keys ∙ sym none.0)
+    (ap (map (λ offset. pos pc +ℤ offset)) no_offsets ∙ ap (λ (l : List ℕ). map pos (map place l)) (sym none.1)) falls
+
+fits_form : (found : Option Form) (d : ℤ) → IsBranchForm found → (is_short_form found && passes d) ≡ false → FitsSigned w32 d → FitsBranch found d
+fits_form (Some Form.Branch) d is near fits = fits_16 d near
+fits_form (Some Form.WideBranch) d is near fits = fits
+fits_form _ d is near fits = absurd is
+
+module _ (code : List ℕ) (place : ℕ → ℕ) (count : ℕ) (small : (j : ℕ) → j ≤ count → place j < 2 ^ 16) (i : ℕ) (within : i ≤ count) where
+  branch_stands : (op : ℕ) (offset : ℤ) (keys : List ℤ) (to : List ℕ) → At code (place i) (spelling (Insn.Branch op (get_or (map (distance place i) to) 0 (pos 0)))) → IsBranchForm (form_of op) → keys ≡ [] → length to ≡ 1
+      → AllByRecursion (λ (t : ℕ). t ≤ count) to → is_far_insn place i (Insn.Branch op offset) to ≡ false → place (i + 1) ≡ place i + narrow_size op
+      → Stands code (place i) (place (i + 1)) (Insn.Branch op offset) keys (map place to)
+  branch_stands op offset keys [] a form none one all near next = absurd (omega arith)
+  branch_stands op offset keys (t ∷ []) a form none one all near next =
+      let d : ℤ = pos (place t) -ℤ pos (place i) in
+      single_stands code (place i) (place (i + 1)) (Insn.Branch op d) (Insn.Branch op offset) keys (place t ∷ []) a
+      (fits_form (form_of op) d form near (fits_32 (place t) (place i) (small t all.0) (small i within))) tt refl (sym none)
+      (ap (λ (z : ℤ). z ∷ []) (back (place i) (place t)))
+      (omega (arith, branch_length op d form))
+  branch_stands op offset keys (t ∷ u ∷ to) a form none one all near next = absurd (omega arith)
+
+  reads_stands : (found insn : Insn) (next size : ℕ) (keys : List ℤ) (to : List ℕ) → Reads code (place i) found size keys (map (distance place i) to) → bare found ≡ bare insn → place i + size ≡ next → Stands code (place i) next insn keys (map place to)
+  reads_stands found insn next size keys to r same falls = record {
+    found = found;
+    size = size;
+    decodes = r.decodes;
+    same = same;
+    with_keys = r.with_keys;
+    leads = ap (map (λ offset. pos (place i) +ℤ offset)) r.leads ∙ all_back place i to;
+    falls = falls;
+  }
+
+  past : (pc : ℕ) → pc < table_place pc
+  past pc = omega arith
+
+  table_stands : (table : ℕ) (keys : List ℤ) (to : List ℕ) → At code (place i) (170 ∷ padding (place i) ++ table_bytes keys (map (distance place i) to)) → Count keys → length to ≡ length keys + 1 → Fit keys → (last : FitsSigned w32 (get_or keys 0 (pos 0) +ℤ pos (length keys - 1)))
+      → AllByRecursion (λ (t : ℕ). t ≤ count) to → place (i + 1) ≡ table_place (place i) + (12 + 4 * length keys)
+      → Stands code (place i) (place (i + 1)) (Insn.TableSwitch table) keys (map place to)
+  table_stands table [] to a counted long fit last all next = absurd counted
+  table_stands table (low ∷ keys) [] a counted long fit last all next = absurd (omega arith)
+  table_stands table (low ∷ keys) (t ∷ to) a counted long fit last all next =
+      let offs = map (distance place i) to in
+      let fits = all_fit place i count (t ∷ to) small within all in
+      let e : length (low ∷ keys) - 1 ≡ length keys = omega arith in
+      let high : FitsSigned w32 (low +ℤ pos (length keys)) = subst (λ (n : ℕ). FitsSigned w32 (low +ℤ pos n)) e last in
+      reads_stands (Insn.TableSwitch (table_place (place i))) (Insn.TableSwitch table) (place (i + 1)) _ (low ∷ keys) (t ∷ to)
+      (table_reads code (place i) low keys (distance place i t) offs a (omega (arith, length-map to (distance place i))) counted (fits.0, (fit.0, (high, fits.1)))) refl
+      (omega (arith, past (place i)))
+
+  lookup_stands : (table : ℕ) (keys : List ℤ) (to : List ℕ) → At code (place i) (171 ∷ padding (place i) ++ lookup_bytes keys (map (distance place i) to)) → HasJump (Insn.LookupSwitch table) (record { keys = keys; to = to }) → Fit keys → FitsSigned w32 (pos (length keys))
+      → AllByRecursion (λ (t : ℕ). t ≤ count) to → place (i + 1) ≡ table_place (place i) + (8 + 8 * length keys)
+      → Stands code (place i) (place (i + 1)) (Insn.LookupSwitch table) keys (map place to)
+  lookup_stands table keys [] a has fit number all next = let h = has.1 in absurd (omega arith)
+  lookup_stands table keys (t ∷ to) a has fit number all next =
+      let h = has.1 in
+      let offs = map (distance place i) to in
+      let fits = all_fit place i count (t ∷ to) small within all in
+      reads_stands (Insn.LookupSwitch (table_place (place i))) (Insn.LookupSwitch table) (place (i + 1)) _ keys (t ∷ to)
+      (lookup_reads code (place i) keys (distance place i t) offs a (omega (arith, length-map to (distance place i))) has.0 fits.0 number fit fits.1) refl
+      (omega (arith, past (place i)))
+
+  plain_row : (insn : Insn) (jump : Jump ℕ) → At code (place i) (spelling insn) → IsInsn insn → IsSingle insn → keys_of code insn ≡ [] → offsets code insn ≡ [] → (jump.keys ≡ []) × (jump.to ≡ []) → place (i + 1) ≡ place i + length (spelling insn)
+      → Stands code (place i) (place (i + 1)) insn jump.keys (map place jump.to)
+  plain_row insn jump a valid single no_keys no_offsets none next = plain_stands code (place i) (place (i + 1)) insn place jump a valid single no_keys no_offsets none (sym next)
+
+  narrow_stands : (insn : Insn) (jump : Jump ℕ) → At code (place i) (narrow_bytes (place i) insn jump.keys (map (distance place i) jump.to)) → Leads insn jump → Fit jump.keys → AllByRecursion (λ (t : ℕ). t ≤ count) jump.to
+      → is_far_insn place i insn jump.to ≡ false → place (i + 1) ≡ behind_insn false (place i) insn (length jump.keys) → place (i + 1) < 2 ^ 16 → Stands code (place i) (place (i + 1)) insn jump.keys (map place jump.to)
+  narrow_stands (Insn.Plain op) jump a leads fit all near next end = plain_row (Insn.Plain op) jump a leads.0 tt refl refl leads.1 next
+  narrow_stands (Insn.Bipush value) jump a leads fit all near next end = plain_row (Insn.Bipush value) jump a leads.0 tt refl refl leads.1 next
+  narrow_stands (Insn.Sipush value) jump a leads fit all near next end = plain_row (Insn.Sipush value) jump a leads.0 tt refl refl leads.1 next
+  narrow_stands (Insn.Local op index wide) jump a leads fit all near next end = plain_row (Insn.Local op index wide) jump a leads.0 tt refl refl leads.1 next
+  narrow_stands (Insn.Iinc index by wide) jump a leads fit all near next end = plain_row (Insn.Iinc index by wide) jump a leads.0 tt refl refl leads.1 next
+  narrow_stands (Insn.Pool op index) jump a leads fit all near next end = plain_row (Insn.Pool op index) jump a leads.0 tt refl refl leads.1 next
+  narrow_stands (Insn.Interface index n last) jump a leads fit all near next end = plain_row (Insn.Interface index n last) jump a leads.0 tt refl refl leads.1 next
+  narrow_stands (Insn.NewArray kind) jump a leads fit all near next end = plain_row (Insn.NewArray kind) jump a leads.0 tt refl refl leads.1 next
+  narrow_stands (Insn.Multi index dims) jump a leads fit all near next end = plain_row (Insn.Multi index dims) jump a leads.0 tt refl refl leads.1 next
+  narrow_stands (Insn.Branch op offset) jump a leads fit all near next end = branch_stands op offset jump.keys jump.to a leads.0 leads.1.0 leads.1.1 all near next
+  narrow_stands (Insn.TableSwitch table) jump a leads fit all near next end =
+      table_stands table jump.keys jump.to a leads.1.0 leads.1.1 fit (last_fits jump.keys leads.1.0 fit) all next
+  narrow_stands (Insn.LookupSwitch table) jump a leads fit all near next end =
+      lookup_stands table jump.keys jump.to a leads.1 fit (count_fits (length jump.keys) (omega (arith, past (place i)))) all next
+
+  widened_stands_by : (b : Bool) (op t : ℕ) → is_test op ≡ b → is_short op ≡ true → At code (place i) (widened_bytes_by b op (distance place i t)) → t ≤ count → place (i + 1) ≡ place i + cond b 8 5
+      → StandsWidened b code (place i) (place (i + 1)) op (place t ∷ [])
+  widened_stands_by true op t test short a le next =
+      let opp : form_of (opposite op) ≡ Some Form.Branch = short_form (form_of (opposite op)) (opposite_short op short test) in
+      let d : ℤ = distance place i t in
+      let first : List ℕ = spelling (Insn.Branch (opposite op) (pos 8)) in
+      let second : List ℕ = spelling (Insn.Branch goto_w (d -ℤ pos 3)) in
+      let three : length first ≡ 3 = short_length (opposite op) (pos 8) opp in
+      let eight : FitsSigned w16 (pos 8) = omega arith in
+      let there : At code (place i + 3) second = subst (λ (n : ℕ). At code (place i + n) second) three (at_second code (place i) first second a) in
+      record {
+        test = single_stands code (place i) (place i + 3) (Insn.Branch (opposite op) (pos 8)) (branch (opposite op)) [] (place (i + 1) ∷ []) (at_first code (place i) first second a)
+          (subst (λ (found : Option Form). FitsBranch found (pos 8)) (sym opp) eight) tt refl refl (ap (λ (z : ℤ). z ∷ []) (over_next (place i) (place (i + 1)) next)) (ap (λ (n : ℕ). place i + n) three);
+        over = single_stands code (place i + 3) (place (i + 1)) (Insn.Branch goto_w (d -ℤ pos 3)) (branch goto_w) [] (place t ∷ []) there
+          (subst (λ (found : Option Form). FitsBranch found (d -ℤ pos 3)) (sym goto_w_form) (fits_over (place t) (place i) (small t le) (small i within))) tt refl refl (ap (λ (z : ℤ). z ∷ []) (back_over (place i) (place t)))
+          (omega (arith, long_length goto_w (d -ℤ pos 3) goto_w_form));
+      }
+  widened_stands_by false op t test short a le next =
+      let form : form_of (wide_jump op) ≡ Some Form.WideBranch = jump_form (eqb op goto) in
+      let d : ℤ = distance place i t in
+      single_stands code (place i) (place (i + 1)) (Insn.Branch (wide_jump op) d) (branch (wide_jump op)) [] (place t ∷ []) a
+      (subst (λ (found : Option Form). FitsBranch found d) (sym form) (fits_32 (place t) (place i) (small t le) (small i within))) tt refl refl (ap (λ (z : ℤ). z ∷ []) (back (place i) (place t)))
+      (omega (arith, long_length (wide_jump op) d form))
+
+  branch_widened : (op : ℕ) (offset : ℤ) (keys : List ℤ) (to : List ℕ) → is_short op ≡ true → At code (place i) (widened_bytes (Insn.Branch op offset) (distance place i (get_or to 0 0))) → length to ≡ 1 → AllByRecursion (λ (t : ℕ). t ≤ count) to
+      → place (i + 1) ≡ place i + branch_size true op → StandsWide code (place i) (place (i + 1)) (Insn.Branch op offset) (map place to)
+  branch_widened op offset keys [] short a one all next = absurd (omega arith)
+  branch_widened op offset keys (t ∷ []) short a one all next = widened_stands_by (is_test op) op t refl short a all.0 next
+  branch_widened op offset keys (t ∷ u ∷ to) short a one all next = absurd (omega arith)
+
+  widened_stands : (insn : Insn) (jump : Jump ℕ) → At code (place i) (widened_bytes insn (distance place i (get_or jump.to 0 0))) → Leads insn jump → AllByRecursion (λ (t : ℕ). t ≤ count) jump.to → is_short_insn insn ≡ true
+      → place (i + 1) ≡ behind_insn true (place i) insn (length jump.keys) → StandsWide code (place i) (place (i + 1)) insn (map place jump.to)
+  widened_stands (Insn.Branch op offset) jump a leads all short next = branch_widened op offset jump.keys jump.to short a leads.1.1 all next
+  widened_stands _ jump a leads all short next = absurd cc
+
+  pub row_stands : (w : Bool) (row : Row) → At code (place i) (row_bytes place i w row) → IsRow count row → Fit row.jump.keys → (w ≡ true → is_short_insn row.insn ≡ true) → (w ≡ false → is_far place i row ≡ false)
+      → place (i + 1) ≡ behind w (place i) row → place (i + 1) < 2 ^ 16 → RowStands code place i w row
+  row_stands true row a is fit short near next end = widened_stands row.insn row.jump a is.leads is.within (short refl) next
+  row_stands false row a is fit short near next end = narrow_stands row.insn row.jump a is.leads fit is.within (near refl) next end

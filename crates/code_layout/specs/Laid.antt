@@ -179,10 +179,6 @@ pub record IsLaidOut (blocks : List Block) (old : MethodCode) (code : CodeAttr) 
 
 -- ---- refusals
 
--- a count as a fault tells it, which has at most 32 bits
-abbrev pub told : ℕ → ℕ
-told n = min n (2 ^ 32 - 1)
-
 -- the length as the blocks are laid out
 pub record IsLength (blocks : List Block) (n : ℕ) : Type 0 where
   pub wide : List Bool
@@ -190,17 +186,16 @@ pub record IsLength (blocks : List Block) (n : ℕ) : Type 0 where
   pub is : n ≡ end_of (rows blocks) wide
 
 pub record PassesLength (blocks : List Block) (n : ℕ) : Type 0 where
-  pub length : ℕ
-  pub is : IsLength blocks length
-  pub long : 2 ^ 16 ≤ length
-  pub told : n ≡ told length
+  pub is : IsLength blocks n
+  pub long : 2 ^ 16 ≤ n
 
+-- the length fits, and there are so many entries
 pub record PassesEntries (blocks : List Block) (old : MethodCode) (n : ℕ) : Type 0 where
   pub length : ℕ
   pub is : IsLength blocks length
   pub fits : length < 2 ^ 16
-  pub many : 2 ^ 16 ≤ entry_count blocks old
-  pub told : n ≡ told (entry_count blocks old)
+  pub count : n ≡ entry_count blocks old
+  pub many : 2 ^ 16 ≤ n
 
 -- the fault is the one that holds, or memory ran out
 abbrev pub IsLayoutFault : List Block → MethodCode → LayoutFault → Type 0

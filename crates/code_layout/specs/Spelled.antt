@@ -104,12 +104,6 @@ pub record ArePlaces (rows : List Row) (wide : List Bool) (places : List ℕ) : 
   pub count : length places ≡ length rows + 1
   pub each : (i : ℕ) → i ≤ length rows → get_or places i 0 ≡ place_of rows wide i
 
--- there are more rows than 32 bits count
-abbrev pub AreTooMany : List Block → LayoutFault → Type 0
-AreTooMany blocks (faults.TooLong n) = (2 ^ 32 ≤ row_count blocks) × (n ≡ 2 ^ 32 - 1)
-AreTooMany blocks (faults.TooManyEntries n) = ⊥
-AreTooMany blocks faults.Memory = Unit {0}
-
 -- the place of a row as a list of places has it
 abbrev pub place_in : List ℕ → ℕ → ℕ
 place_in places i = get_or places i 0

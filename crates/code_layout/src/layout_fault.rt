@@ -6,15 +6,15 @@ ghost use Rattle.code_layout.specs.declared.layout_fault.LayoutFault.TheVariants
 use std::alloc::{AllocError, AllocFailed};
 use thiserror::Error;
 
-/// Why blocks are not laid out. A number that passes 32 bits is told as the greatest of 32 bits.
+/// Why blocks are not laid out.
 #[derive(Clone, Copy, Debug, PartialEq, Eq, Error)]
 pub enum LayoutFault {
     /// The code would have so many bytes, and more than 65535 (JVMS 4.10).
     #[error("{0} bytes of code are too many")]
-    TooLong(u32),
+    TooLong(u64),
     /// The exception table would have so many entries, and more than 65535 (JVMS 4.7.3).
     #[error("{0} entries of the exception table are too many")]
-    TooManyEntries(u32),
+    TooManyEntries(u64),
     /// There was not enough memory.
     #[error("out of memory")]
     Memory,

@@ -3,10 +3,9 @@
 ghost use Rattle.std.specs.Prelude.{◌≡◌, ◌+◌, ◌^◌, ◌<◌, ◌≤◌, ◌++◌, ◌∷◌, [], length, map, IfOk, IfErr, OnOk, SomeIff};
 ghost use Rattle.std.specs.List.{AllByRecursion, AllZip};
 ghost use Rattle.code_layout.specs.Blocks.{IsBlock, IsTargetOf, Leads, target_row, rows_of, rows};
-ghost use Rattle.code_layout.specs.Spelled.{AreStarts, AreTooMany};
+ghost use Rattle.code_layout.specs.Spelled.{AreStarts};
 
 use crate::block::{Block, BlockTarget};
-use crate::layout_fault::LayoutFault;
 use crate::method_code::Jump;
 use opcode_table::Insn;
 use sqlite_items::Items;
@@ -30,11 +29,10 @@ fn row_after(start: u32, more: usize) -> Option<u32>
     }
 }
 
-/// The number of each block's first row, and behind them that of all rows. Where 32 bits do not count
-/// the rows, the fault says so.
-pub(crate) fn starts(alloc: Global, blocks: &[Block]) -> Result<Vec<u32>, LayoutFault>
-    ensures starts { IfOk result (λ starts. AreStarts blocks.now starts.items) }
-    ensures fault { IfErr result (AreTooMany blocks.now) }
+/// The number of each block's first row, and behind them that of all rows. More rows than 32 bits count
+/// are answered as want of memory.
+pub(crate) fn starts(alloc: Global, blocks: &[Block]) -> Result<Vec<u32>, AllocError>
+    ensures { IfOk result (λ starts. AreStarts blocks.now starts.items) }
 {
     let mut starts = Vec::new(alloc);
     let mut start: u32 = 0;
@@ -42,7 +40,7 @@ pub(crate) fn starts(alloc: Global, blocks: &[Block]) -> Result<Vec<u32>, Layout
     for block in blocks {
         match row_after(start, block.insns.len()) {
             Some(next) => start = next,
-            None => return Err(LayoutFault::TooLong(u32::MAX)),
+            None => return Err(AllocError),
         }
         starts.push(start)?;
     }

@@ -2,7 +2,7 @@ use Rattle.std.proofs.Common.{◌≡◌, ℕ, List, length, take, arith, ap, ◌
 use Rattle.std.proofs.lemmas.List.{take_all}
 use Rattle.code_layout.specs.declared.row.Row.{Row}
 use Rattle.code_layout.specs.Spelled.{bytes_from, place_in}
-use Rattle.code_layout.proofs.Standing.{can_stand, bytes_more, bytes_are}
+use Rattle.code_layout.proofs.Settling.{can_stand, bytes_more, bytes_are}
 use Rattle.code_layout.proofs.laid_bytes.laid_bytes.Goals as goal
 
 pub put_row-requires : goal.put_row-requires

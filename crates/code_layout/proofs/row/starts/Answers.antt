@@ -1,5 +1,5 @@
 use Rattle.std.proofs.Common.{◌≡◌, ◌∙◌, arith, sym, ap, ℕ, length, refl}
-use Rattle.code_layout.proofs.Starts.{start_zero, starts_more, start_next, start_below, start_all}
+use Rattle.code_layout.proofs.Starts.{start_zero, starts_more, start_next}
 use Rattle.code_layout.specs.Blocks.{start_of}
 use Rattle.std.specs.Prelude.{[], ◌∷◌, ◌++◌, ◌+◌, ◌≤◌, get_or, List}
 use Rattle.code_layout.proofs.row.starts.Goals as goal
@@ -8,13 +8,6 @@ pub loop-block-init : goal.loop-block-init
 loop-block-init c =
     let is : c.push.new.self.items ≡ 0 ∷ [] = c.in_ok-push.ensures.items ∙ ap (λ (l : List ℕ). l ++ 0 ∷ []) c.new-starts.ensures.items in
     (ap length is, λ k le. (let e : k ≡ 0 = omega arith in rw (is, e) (sym (start_zero c.args.blocks.now))), sym (start_zero c.args.blocks.now))
-
-pub returns-in-None-clause-fault : goal.returns-in-None-clause-fault
-returns-in-None-clause-fault c =
-    let next = start_next c.args.blocks.now c.loop-block.block-index c.block-item.result (omega arith) (sym c.block-item.is) in
-    let below = start_below c.args.blocks.now (c.loop-block.block-index + 1) in
-    let start = c.loop-block.invariant.2 in
-    (omega arith, refl)
 
 pub loop-block-preserved : goal.loop-block-preserved
 loop-block-preserved c =
