@@ -16,3 +16,5 @@ pub mod Whole
 pub mod Branches
 pub mod Placing
 pub mod Rounds
+pub mod Putting
+pub mod Settling

@@ -9,7 +9,7 @@ use Rattle.opcode_table.specs.declared.insn.Insn.{Insn}
 use Rattle.opcode_table.specs.declared.insn.Insn.TheVariants as insn
 use Rattle.code_layout.specs.declared.row.Row.{Row}
 use Rattle.code_layout.specs.Places.{is_short, passes, is_far_insn, is_far, first_wide, other_wide, widen_from, widen, after_rounds, place_of, AreWidened}
-use Rattle.code_layout.specs.Spelled.{IsRow, AreRows, ArePlaces, place_in}
+use Rattle.code_layout.specs.Spelled.{IsRow, AreRows, ArePlaces, place_in, IsShortInsn}
 use Rattle.code_layout.proofs.Placing.{first_is, other_is}
 
 -- ---- one row more
@@ -47,7 +47,7 @@ module _ (f g : ℕ → ℕ) (count : ℕ) (agree : (k : ℕ) → k ≤ count �
   first_within [] all = omega arith
   first_within (t ∷ to) all = let here = all.0 in omega arith
 
-  far_agrees : (i : ℕ) (insn : Insn) (to : List ℕ) → i ≤ count → AllByRecursion (λ (t : ℕ). t ≤ count) to → is_far_insn f i insn to ≡ is_far_insn g i insn to
+  pub far_agrees : (i : ℕ) (insn : Insn) (to : List ℕ) → i ≤ count → AllByRecursion (λ (t : ℕ). t ≤ count) to → is_far_insn f i insn to ≡ is_far_insn g i insn to
   far_agrees i (insn.Branch op offset) to le all = let a = agree i le in let b = agree (get_or to 0 0) (first_within to all) in rw (a, b) refl
   far_agrees i _ to le all = refl
 
@@ -88,10 +88,6 @@ widen_fewer place n (r ∷ rows) (true ∷ wide) count = fewer_wide wide _ (wide
 widen_fewer place n (r ∷ rows) (false ∷ wide) count = fewer_narrow (is_far place n r) wide _ (widen_fewer place (n + 1) rows wide (omega arith))
 
 -- ---- only branches of two bytes are widened
-
-abbrev pub IsShortInsn : Insn → Type 0
-IsShortInsn (insn.Branch op offset) = is_short op ≡ true
-IsShortInsn _ = ⊥
 
 abbrev pub AreShort : List Row → List Bool → Type 0
 AreShort [] wide = Unit {0}

@@ -5,13 +5,14 @@ use Rattle.std.specs.List.{AllByRecursion}
 use Rattle.opcode_table.specs.declared.insn.Insn.{Insn}
 use Rattle.opcode_table.specs.declared.insn.Insn.TheVariants as insn
 use Rattle.opcode_table.specs.Decoding.{table_place}
-use Rattle.opcode_table.specs.Spelling.{spelling, s4_bytes}
+use Rattle.opcode_table.specs.Table.{form_of}
+use Rattle.opcode_table.specs.Spelling.{spelling, s4_bytes, FitsBranch}
 use Rattle.code_layout.specs.declared.layout_fault.LayoutFault.{LayoutFault}
 use Rattle.code_layout.specs.declared.layout_fault.LayoutFault.TheVariants as faults
 use Rattle.code_layout.specs.declared.block.Block.{Block}
 use Rattle.code_layout.specs.declared.row.Row.{Row}
 use Rattle.code_layout.specs.Blocks.{Leads, start_of, row_count}
-use Rattle.code_layout.specs.Places.{goto_w, wide_jump, is_test, opposite, first_wide, other_wide, place_of, end_of, AreWidened}
+use Rattle.code_layout.specs.Places.{goto_w, wide_jump, is_short, is_test, opposite, first_wide, other_wide, place_of, end_of, AreWidened}
 
 -- ---- bytes
 
@@ -69,6 +70,21 @@ bytes_from place i (row ∷ rows) wide = row_bytes place i (first_wide wide) row
 abbrev pub bytes_of : List Row → List Bool → List ℕ
 bytes_of rows wide = bytes_from (place_of rows wide) 0 rows wide
 
+-- the way from a place to a row
+abbrev pub way : List ℕ → ℕ → ℕ → ℤ
+way places pc to = pos (get_or places to 0) -ℤ pos pc
+
+-- a branch with an offset of two bytes
+abbrev pub IsShortInsn : Insn → Type 0
+IsShortInsn (insn.Branch op offset) = is_short op ≡ true
+IsShortInsn _ = ⊥
+
+-- If the instruction is widened, it is a branch with an offset of two bytes. If it isn't, but is a branch, the distance fits it.
+abbrev pub IsReached : Bool → Insn → ℤ → Type 0
+IsReached true insn distance = IsShortInsn insn
+IsReached false (insn.Branch op offset) distance = FitsBranch (form_of op) distance
+IsReached false insn distance = Unit {0}
+
 -- ---- what one step gives the next
 
 pub record IsRow (count : ℕ) (row : Row) : Type 0 where
@@ -102,3 +118,11 @@ pub record AreSmall (count : ℕ) (places : List ℕ) : Type 0 where
   pub all : length places ≡ count + 1
   pub each : (i : ℕ) → place_in places i < 2 ^ 16
   pub rise : (i j : ℕ) → i ≤ j → j ≤ count → place_in places i ≤ place_in places j
+
+-- what the bytes of row i ask
+pub record CanStand (places : List ℕ) (i : ℕ) (wide : Bool) (row : Row) : Type 0 where
+  pub valid : IsRow (length places - 1) row
+  pub there : i < length places
+  pub small : (k : ℕ) → place_in places k < 2 ^ 16
+  pub few : length row.jump.keys < 2 ^ 16
+  pub reached : IsReached wide row.insn (distance (place_in places) i (get_or row.jump.to 0 0))
