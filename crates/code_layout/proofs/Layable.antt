@@ -86,9 +86,10 @@ block_rows : (all : List Block) (start : ℕ) (b : Block) (insns : List Insn) (j
     → AllByRecursion (λ (j : Jump BlockTarget). AllByRecursion (IsTargetOf (length all) b) j.to) jumps → AllByRecursion (IsRow (row_count all)) (rows_of (target_row all start b.labels) insns jumps)
 block_rows all start b [] jumps le labels leads there = tt
 block_rows all start b (i ∷ insns) [] le labels leads there = tt
-block_rows all start b (i ∷ insns) (j ∷ jumps) le labels leads there =
-    (record { leads = mapped_leads (target_row all start b.labels) i j leads.0; within = targets_within all start b j.to le labels there.0 },
-    block_rows all start b insns jumps le labels leads.1 there.1)
+block_rows all start b (i ∷ insns) (j ∷ jumps) le labels leads there = (
+  record { leads = mapped_leads (target_row all start b.labels) i j leads.0; within = targets_within all start b j.to le labels there.0 },
+  block_rows all start b insns jumps le labels leads.1 there.1,
+)
 
 rows_are : (all : List Block) (start : ℕ) (blocks : List Block) → start + row_count blocks ≡ row_count all → AllByRecursion (IsBlock (length all)) blocks → AllByRecursion (IsRow (row_count all)) (rows_from all start blocks)
 rows_are all start [] sum are = tt
@@ -203,8 +204,8 @@ module _ (f g : ℕ → ℕ) (blocks : List Block) (agree : (i : ℕ) → i ≤ 
   own_same start b [] le labels are = refl
   own_same start b (e ∷ entries) le labels are =
       let here : own_entry f blocks start b.labels e ≡ own_entry g blocks start b.labels e =
-          entry_is _ _ _ _ _ _ e.catch_type (bound_same start e.start e.old_range b le (limit_is e.old_range b e.start are.0.start)) (bound_same start e.end e.old_range b le (limit_is e.old_range b e.end are.0.end))
-          (agree (target_row blocks start b.labels e.handler) (target_within blocks start b e.handler le labels are.0.handler)) in
+      entry_is _ _ _ _ _ _ e.catch_type (bound_same start e.start e.old_range b le (limit_is e.old_range b e.start are.0.start)) (bound_same start e.end e.old_range b le (limit_is e.old_range b e.end are.0.end))
+      (agree (target_row blocks start b.labels e.handler) (target_within blocks start b e.handler le labels are.0.handler)) in
       ap (λ (x : ExceptionEntry). x ∷ map (own_entry f blocks start b.labels) entries) here
       ∙ ap (λ (l : List ExceptionEntry). own_entry g blocks start b.labels e ∷ l) (own_same start b entries le labels are.1)
 

@@ -56,9 +56,10 @@ far_short place i _ to is = absurd cc
 
 widen_short : (place : ℕ → ℕ) (i : ℕ) (rows : List Row) (wide : List Bool) → AreShort rows wide → AreShort rows (widen_from place i rows wide)
 widen_short place i [] wide are = tt
-widen_short place i (row ∷ rows) wide are =
-    (λ is. elim (or_true (first_wide wide) (is_far place i row) is) [ | inl w ↦ are.0 w | inr far ↦ far_short place i row.insn row.jump.to far ],
-    widen_short place (i + 1) rows (other_wide wide) are.1)
+widen_short place i (row ∷ rows) wide are = (
+  λ is. elim (or_true (first_wide wide) (is_far place i row) is) [ inl w ↦ are.0 w | inr far ↦ far_short place i row.insn row.jump.to far ],
+  widen_short place (i + 1) rows (other_wide wide) are.1,
+)
 
 rounds_short : (rows : List Row) (n : ℕ) → AreShort rows (after_rounds rows n)
 rounds_short rows zero = none_short rows

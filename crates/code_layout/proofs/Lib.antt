@@ -17,3 +17,4 @@ pub mod Placing
 pub mod Rounds
 pub mod Putting
 pub mod Settling
+pub mod Testing

@@ -290,10 +290,10 @@ module _ (code : List ℕ) (place : ℕ → ℕ) (count : ℕ) (small : (j : ℕ
       let there : At code (place i + 3) second = subst (λ (n : ℕ). At code (place i + n) second) three (at_second code (place i) first second a) in
       record {
         test = single_stands code (place i) (place i + 3) (Insn.Branch (opposite op) (pos 8)) (branch (opposite op)) [] (place (i + 1) ∷ []) (at_first code (place i) first second a)
-          (subst (λ (found : Option Form). FitsBranch found (pos 8)) (sym opp) eight) tt refl refl (ap (λ (z : ℤ). z ∷ []) (over_next (place i) (place (i + 1)) next)) (ap (λ (n : ℕ). place i + n) three);
+            (subst (λ (found : Option Form). FitsBranch found (pos 8)) (sym opp) eight) tt refl refl (ap (λ (z : ℤ). z ∷ []) (over_next (place i) (place (i + 1)) next)) (ap (λ (n : ℕ). place i + n) three);
         over = single_stands code (place i + 3) (place (i + 1)) (Insn.Branch goto_w (d -ℤ pos 3)) (branch goto_w) [] (place t ∷ []) there
-          (subst (λ (found : Option Form). FitsBranch found (d -ℤ pos 3)) (sym goto_w_form) (fits_over (place t) (place i) (small t le) (small i within))) tt refl refl (ap (λ (z : ℤ). z ∷ []) (back_over (place i) (place t)))
-          (omega (arith, long_length goto_w (d -ℤ pos 3) goto_w_form));
+            (subst (λ (found : Option Form). FitsBranch found (d -ℤ pos 3)) (sym goto_w_form) (fits_over (place t) (place i) (small t le) (small i within))) tt refl refl (ap (λ (z : ℤ). z ∷ []) (back_over (place i) (place t)))
+            (omega (arith, long_length goto_w (d -ℤ pos 3) goto_w_form));
       }
   widened_stands_by false op t test short a le next =
       let form : form_of (wide_jump op) ≡ Some Form.WideBranch = jump_form (eqb op goto) in

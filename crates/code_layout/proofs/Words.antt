@@ -140,17 +140,17 @@ table_reads code pc low keys default offs a all count fit =
     let lowest : table_low code t ≡ low = word_in code t ns 1 w fit (omega arith) in
     let highest : table_high code t ≡ low +ℤ pos (length keys) = word_in code t ns 2 w fit (omega arith) in
     let counted : table_count code t ≡ length (low ∷ keys) =
-        ap (λ (n : ℕ). n + 1) (ap (λ (h : ℤ). unsigned_abs (h -ℤ table_low code t)) highest ∙ ap (λ (l : ℤ). unsigned_abs ((low +ℤ pos (length keys)) -ℤ l)) lowest ∙ span low (length keys)) ∙ add-one (length keys) in
+    ap (λ (n : ℕ). n + 1) (ap (λ (h : ℤ). unsigned_abs (h -ℤ table_low code t)) highest ∙ ap (λ (l : ℤ). unsigned_abs ((low +ℤ pos (length keys)) -ℤ l)) lowest ∙ span low (length keys)) ∙ add-one (length keys) in
     let size : table_length code t ≡ 12 + 4 * length (low ∷ keys) = ap (λ (n : ℕ). 12 + 4 * n) counted in
     let order : int_lt (table_high code t) (table_low code t) ≡ false =
-        ap (λ (h : ℤ). int_lt h (table_low code t)) highest ∙ ap (λ (l : ℤ). int_lt (low +ℤ pos (length keys)) l) lowest ∙ up low (length keys) in
+    ap (λ (h : ℤ). int_lt h (table_low code t)) highest ∙ ap (λ (l : ℤ). int_lt (low +ℤ pos (length keys)) l) lowest ∙ up low (length keys) in
     record {
       decodes = starts_table code pc _ a.is ∙ is_table code pc t (omega arith) order (omega arith) ∙ ap (λ (n : ℕ). let r : Decoded = Ok (Insn.TableSwitch t, t + n - pc) in r) size;
       with_keys = numbered_same (λ i. table_low code t +ℤ pos i) (λ i. low +ℤ pos i) (table_count code t) (length (low ∷ keys)) counted (λ i lt. ap (λ (l : ℤ). l +ℤ pos i) lowest) ∙ sym count;
       leads =
-        ap (λ (z : ℤ). z ∷ numbered (table_count code t) (table_offset code t)) here
-        ∙ ap (λ (l : List ℤ). default ∷ l) (numbered_is (table_offset code t) offs (pos 0) (table_count code t) (omega arith)
-        (λ i lt. (let e : t + 12 + 4 * i ≡ t + 4 * suc (suc (suc i)) = omega arith in ap (word_at code) e) ∙ word_in code t ns (suc (suc (suc i))) w fit (omega arith)));
+          ap (λ (z : ℤ). z ∷ numbered (table_count code t) (table_offset code t)) here
+          ∙ ap (λ (l : List ℤ). default ∷ l) (numbered_is (table_offset code t) offs (pos 0) (table_count code t) (omega arith)
+          (λ i lt. (let e : t + 12 + 4 * i ≡ t + 4 * suc (suc (suc i)) = omega arith in ap (word_at code) e) ∙ word_in code t ns (suc (suc (suc i))) w fit (omega arith)));
     }
 
 -- ---- lookupswitch
@@ -208,7 +208,7 @@ lookup_reads code pc keys default offs a all up fit-d fit-n fit-k fit-o =
     let ns : List ℤ = default ∷ pos (length keys) ∷ pairs keys offs in
     let fit : Fit ns = (fit-d, (fit-n, pairs_fit keys offs fit-k fit-o)) in
     let b : At code pc (171 ∷ padding pc ++ words ns) =
-        subst (λ (l : List ℕ). At code pc (171 ∷ padding pc ++ (s4_bytes default ++ (s4_bytes (pos (length keys)) ++ l)))) (pairs_words keys offs) a in
+    subst (λ (l : List ℕ). At code pc (171 ∷ padding pc ++ (s4_bytes default ++ (s4_bytes (pos (length keys)) ++ l)))) (pairs_words keys offs) a in
     let w : At code t (words ns) = table_at code pc 171 (words ns) b in
     let much : length (pairs keys offs) ≡ 2 * length keys = pairs_length keys offs all in
     let room : t + length (words ns) ≤ length code = at_room code t (words ns) w (omega (arith, words_length ns)) in
@@ -219,17 +219,17 @@ lookup_reads code pc keys default offs a all up fit-d fit-n fit-k fit-o =
     let counted : pair_count code t ≡ length keys = ap unsigned_abs number in
     let size : lookup_length code t ≡ 8 + 8 * length keys = ap (λ (n : ℕ). 8 + 8 * n) counted in
     let key : (i : ℕ) → i < length keys → pair_key code t i ≡ get_or keys i (pos 0) =
-        λ i lt. (let e : t + 8 + 8 * i ≡ t + 4 * suc (suc (2 * i)) = omega arith in ap (word_at code) e) ∙ word_in code t ns (suc (suc (2 * i))) w fit (omega arith) ∙ pairs_key keys offs i all lt in
+    λ i lt. (let e : t + 8 + 8 * i ≡ t + 4 * suc (suc (2 * i)) = omega arith in ap (word_at code) e) ∙ word_in code t ns (suc (suc (2 * i))) w fit (omega arith) ∙ pairs_key keys offs i all lt in
     let order : keys_ascend code t ≡ true =
-        each_all (pair_count code t - 1) (λ i. ascends_at code t i) (λ i lt.
-        let e : i + 1 ≡ suc i = add-one i in
-        ap (λ (k : ℤ). int_lt k (pair_key code t (i + 1))) (key i (omega arith)) ∙ ap (λ (k : ℤ). int_lt (get_or keys i (pos 0)) k) (key (i + 1) (omega arith) ∙ ap (λ (n : ℕ). get_or keys n (pos 0)) e) ∙ ascend_at keys i up (omega arith)) in
+    each_all (pair_count code t - 1) (λ i. ascends_at code t i) (λ i lt.
+    let e : i + 1 ≡ suc i = add-one i in
+    ap (λ (k : ℤ). int_lt k (pair_key code t (i + 1))) (key i (omega arith)) ∙ ap (λ (k : ℤ). int_lt (get_or keys i (pos 0)) k) (key (i + 1) (omega arith) ∙ ap (λ (n : ℕ). get_or keys n (pos 0)) e) ∙ ascend_at keys i up (omega arith)) in
     let sign : int_lt (pair_number code t) (pos 0) ≡ false = ap (λ (n : ℤ). int_lt n (pos 0)) number ∙ natural (length keys) in
     record {
       decodes = starts_lookup code pc _ a.is ∙ is_lookup code pc t (omega arith) sign (omega arith) order ∙ ap (λ (n : ℕ). let r : Decoded = Ok (Insn.LookupSwitch t, t + n - pc) in r) size;
       with_keys = numbered_is (pair_key code t) keys (pos 0) (pair_count code t) (omega arith) key;
       leads =
-        ap (λ (z : ℤ). z ∷ numbered (pair_count code t) (pair_offset code t)) here
-        ∙ ap (λ (l : List ℤ). default ∷ l) (numbered_is (pair_offset code t) offs (pos 0) (pair_count code t) (omega arith)
-        (λ i lt. (let e : t + 12 + 8 * i ≡ t + 4 * suc (suc (suc (2 * i))) = omega arith in ap (word_at code) e) ∙ word_in code t ns (suc (suc (suc (2 * i)))) w fit (omega arith) ∙ pairs_offset keys offs i all (omega arith)));
+          ap (λ (z : ℤ). z ∷ numbered (pair_count code t) (pair_offset code t)) here
+          ∙ ap (λ (l : List ℤ). default ∷ l) (numbered_is (pair_offset code t) offs (pos 0) (pair_count code t) (omega arith)
+          (λ i lt. (let e : t + 12 + 8 * i ≡ t + 4 * suc (suc (suc (2 * i))) = omega arith in ap (word_at code) e) ∙ word_in code t ns (suc (suc (suc (2 * i)))) w fit (omega arith) ∙ pairs_offset keys offs i all (omega arith)));
     }
