@@ -12,6 +12,7 @@ pub mod Words
 pub mod Standing
 pub mod Laying
 pub mod Layable
+pub mod Whole
 pub mod Branches
 pub mod Placing
 pub mod Rounds

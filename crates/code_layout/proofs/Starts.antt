@@ -3,13 +3,17 @@ use Rattle.std.proofs.Common.{◌≡◌, ℕ, zero, suc, ◌+◌, ◌<◌, ◌�
 use Rattle.std.proofs.Math.Seq.{drop-cons, get_or-append_seam}
 use Rattle.std.proofs.Math.ListN.{get_or-append}
 use Rattle.std.proofs.lemmas.Bool.{cases_eq}
-use Rattle.std.specs.Prelude.{Option, Some}
+use Rattle.std.specs.Prelude.{Option, Some, FitsSigned}
+use Rattle.std.specs.Int.{w32}
+use Rattle.code_layout.specs.Spelled.{HaveKeys}
 use Rattle.std.specs.List.{AllZip, AllByRecursion}
 use Rattle.opcode_table.specs.declared.insn.Insn.{Insn}
 use Rattle.code_layout.specs.declared.method_code.Jump.{Jump}
 use Rattle.code_layout.specs.declared.block.Block.{Block}
 use Rattle.code_layout.specs.declared.block.BlockTarget.{BlockTarget}
 use Rattle.code_layout.specs.declared.row.Row.{Row}
+use Rattle.class_file.specs.declared.types.ExceptionEntry.{ExceptionEntry}
+use Rattle.code_layout.specs.Laid.{own_entry, own_entries_from}
 use Rattle.code_layout.specs.Blocks.{start_of, row_count, target_row, rows_of, rows_from, rows}
 
 pub start_next : (blocks : List Block) (k : ℕ) (b : Block) → k < length blocks → get_or blocks k b ≡ b → start_of blocks (k + 1) ≡ start_of blocks k + length b.insns
@@ -29,6 +33,12 @@ pub start_below : (blocks : List Block) (k : ℕ) → start_of blocks k ≤ row_
 start_below [] k = omega arith
 start_below (b ∷ blocks) zero = omega arith
 start_below (b ∷ blocks) (suc k) = omega (arith, start_below blocks k)
+
+pub start_rises : (blocks : List Block) (i j : ℕ) → i ≤ j → start_of blocks i ≤ start_of blocks j
+start_rises [] i j le = omega arith
+start_rises (b ∷ blocks) zero j le = omega arith
+start_rises (b ∷ blocks) (suc i) zero le = absurd (omega arith)
+start_rises (b ∷ blocks) (suc i) (suc j) le = omega (arith, start_rises blocks i j (omega arith))
 
 pub start_all : (blocks : List Block) (k : ℕ) → length blocks ≤ k → start_of blocks k ≡ row_count blocks
 start_all [] k le = refl
@@ -108,3 +118,41 @@ blocks_more blocks i start b done done' whole lt is at more before =
 
 pub blocks_first : (blocks : List Block) (done : List Row) → done ≡ [] → done ++ rows_from blocks (start_of blocks 0) blocks ≡ rows blocks
 blocks_first blocks done is = ap (λ (l : List Row). l ++ rows_from blocks (start_of blocks 0) blocks) is ∙ ap (λ (m : ℕ). rows_from blocks m blocks) (start_zero blocks)
+
+-- ---- keys
+
+pub no_keys : (rows : List Row) → rows ≡ [] → HaveKeys rows
+no_keys rows is = subst HaveKeys (sym is) tt
+
+keys_append : (rows : List Row) (row : Row) → HaveKeys rows → AllByRecursion (FitsSigned w32) row.jump.keys → HaveKeys (rows ++ row ∷ [])
+keys_append [] row have here = (here, tt)
+keys_append (r ∷ rows) row have here = (have.0, keys_append rows row have.1 here)
+
+pub keys_more : (rows rows' : List Row) (insn : Insn) (jump : Jump ℕ) → HaveKeys rows → AllByRecursion (FitsSigned w32) jump.keys → rows' ≡ rows ++ record { insn = insn; jump = jump } ∷ [] → HaveKeys rows'
+keys_more rows rows' insn jump have here more = subst HaveKeys (sym more) (keys_append rows (record { insn = insn; jump = jump }) have here)
+
+-- ---- own entries
+
+own_step : (place : ℕ → ℕ) (all : List Block) (start : ℕ) (blocks : List Block) (i : ℕ) (b : Block) → i < length blocks → b ≡ get_or blocks i b
+    → own_entries_from place all start (drop i blocks) ≡ map (own_entry place all start b.labels) b.entries ++ own_entries_from place all (start + length b.insns) (drop (suc i) blocks)
+own_step place all start blocks i b lt is =
+    ap (own_entries_from place all start) (drop-cons blocks i b lt)
+    ∙ ap (λ (q : Block). own_entries_from place all start (q ∷ drop (suc i) blocks)) (sym is)
+
+-- one more block's entries in front of those that are left
+pub own_entries_more : (place : ℕ → ℕ) (blocks : List Block) (i start : ℕ) (b : Block) (done done' whole : List ExceptionEntry) → i < length blocks → b ≡ get_or blocks i b → start ≡ start_of blocks i
+    → done' ≡ done ++ map (own_entry place blocks start b.labels) b.entries
+    → done ++ own_entries_from place blocks (start_of blocks i) (drop i blocks) ≡ whole → done' ++ own_entries_from place blocks (start_of blocks (i + 1)) (drop (i + 1) blocks) ≡ whole
+own_entries_more place blocks i start b done done' whole lt is at more before =
+    let here : List ExceptionEntry = map (own_entry place blocks start b.labels) b.entries in
+    let next : start_of blocks (i + 1) ≡ start + length b.insns = start_next blocks i b lt (sym is) ∙ ap (λ (n : ℕ). n + length b.insns) (sym at) in
+    ap (λ (l : List ExceptionEntry). l ++ own_entries_from place blocks (start_of blocks (i + 1)) (drop (i + 1) blocks)) more
+    ∙ ap (λ (m : ℕ). (done ++ here) ++ own_entries_from place blocks m (drop (i + 1) blocks)) next
+    ∙ ap (λ (m : ℕ). (done ++ here) ++ own_entries_from place blocks (start + length b.insns) (drop m blocks)) (add-one i)
+    ∙ append_assoc done here (own_entries_from place blocks (start + length b.insns) (drop (suc i) blocks))
+    ∙ ap (λ (l : List ExceptionEntry). done ++ l) (sym (own_step place blocks start blocks i b lt is))
+    ∙ ap (λ (m : ℕ). done ++ own_entries_from place blocks m (drop i blocks)) at ∙ before
+
+pub own_first : (place : ℕ → ℕ) (blocks : List Block) (done : List ExceptionEntry) → done ≡ [] → done ++ own_entries_from place blocks (start_of blocks 0) blocks ≡ own_entries_from place blocks 0 blocks
+own_first place blocks done is =
+    ap (λ (l : List ExceptionEntry). l ++ own_entries_from place blocks (start_of blocks 0) blocks) is ∙ ap (λ (m : ℕ). own_entries_from place blocks m blocks) (start_zero blocks)

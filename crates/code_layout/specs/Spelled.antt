@@ -1,5 +1,6 @@
 -- The bytes of rows that are laid out (JVMS 6.4), and what the steps of laying out give each other.
-use Rattle.std.specs.Prelude.{◌≡◌, ℕ, zero, suc, ◌+◌, ◌-◌, ◌^◌, ◌<◌, ◌≤◌, Bool, true, false, List, [], ◌∷◌, ◌++◌, length, map, get_or, replicate, ℤ, pos, ◌+ℤ◌, ◌-ℤ◌}
+use Rattle.std.specs.Prelude.{◌≡◌, ℕ, zero, suc, ◌+◌, ◌-◌, ◌^◌, ◌<◌, ◌≤◌, Bool, true, false, List, [], ◌∷◌, ◌++◌, length, map, get_or, replicate, FitsSigned, ℤ, pos, ◌+ℤ◌, ◌-ℤ◌}
+use Rattle.std.specs.Int.{w32}
 use Rattle.std.specs.List.{AllByRecursion}
 use Rattle.opcode_table.specs.declared.insn.Insn.{Insn}
 use Rattle.opcode_table.specs.declared.insn.Insn.TheVariants as insn
@@ -101,6 +102,10 @@ pub record IsRow (count : ℕ) (row : Row) : Type 0 where
 
 abbrev pub AreRows : List Row → Type 0
 AreRows rows = AllByRecursion (IsRow (length rows)) rows
+
+-- keys are numbers of 32 bits
+abbrev pub HaveKeys : List Row → Type 0
+HaveKeys rows = AllByRecursion (λ (row : Row). AllByRecursion (FitsSigned w32) row.jump.keys) rows
 
 -- of each block the number of its first row, and behind them that of all rows
 pub record AreStarts (blocks : List Block) (starts : List ℕ) : Type 0 where

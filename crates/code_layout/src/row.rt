@@ -1,9 +1,10 @@
 //! Blocks as one list of instructions.
 
-ghost use Rattle.std.specs.Prelude.{◌≡◌, ◌+◌, ◌^◌, ◌<◌, ◌≤◌, ◌++◌, ◌∷◌, [], length, map, IfOk, IfErr, OnOk, SomeIff};
+ghost use Rattle.std.specs.Prelude.{◌≡◌, ◌+◌, ◌^◌, ◌<◌, ◌≤◌, ◌++◌, ◌∷◌, [], length, map, IfOk, IfErr, OnOk, SomeIff, FitsSigned};
+ghost use Rattle.std.specs.Int.{w32};
 ghost use Rattle.std.specs.List.{AllByRecursion, AllZip};
 ghost use Rattle.code_layout.specs.Blocks.{IsBlock, IsTargetOf, Leads, target_row, rows_of, rows};
-ghost use Rattle.code_layout.specs.Spelled.{AreStarts};
+ghost use Rattle.code_layout.specs.Spelled.{AreStarts, HaveKeys};
 
 use crate::block::{Block, BlockTarget};
 use crate::method_code::Jump;
@@ -68,6 +69,18 @@ pub(crate) fn row_of(
     }
 }
 
+/// The same keys, each of which is one of 32 bits.
+fn copied_keys(alloc: Global, keys: &[i32]) -> Result<Vec<i32>, AllocError>
+    ensures same { IfOk result (λ copied. copied.items ≡ keys.now) }
+    ensures fit { IfOk result (λ copied. AllByRecursion (FitsSigned w32) copied.items) }
+{
+    let mut copied = Vec::new(alloc);
+    for key in keys {
+        copied.push(*key)?;
+    }
+    Ok(copied)
+}
+
 /// The jump of a block's instruction by the numbers of rows.
 fn row_jump(
     alloc: Global,
@@ -82,6 +95,7 @@ fn row_jump(
     requires labels { AllByRecursion (λ position. position ≤ length block.now.insns) block.now.labels }
     requires there { AllByRecursion (IsTargetOf (length blocks.now) block.now) jump.now.to }
     ensures keys { IfOk result (λ found. found.keys ≡ jump.now.keys) }
+    ensures fit { IfOk result (λ found. AllByRecursion (FitsSigned w32) found.keys) }
     ensures to { IfOk result (λ found. found.to ≡ map (target_row blocks.now start block.now.labels) jump.now.to) }
 {
     let mut to = Vec::new(alloc);
@@ -89,7 +103,7 @@ fn row_jump(
         to.push(row_of(starts, blocks, start, block, *target))?;
     }
     Ok(Jump {
-        keys: Items::from_slice(alloc, jump.keys.as_slice())?,
+        keys: Items::from_vec(copied_keys(alloc, jump.keys.as_slice())?),
         to: Items::from_vec(to),
     })
 }
@@ -106,7 +120,9 @@ fn add_rows(
     requires starts { AreStarts blocks.now starts.now }
     requires small { start + length block.now.insns < 2 ^ 32 }
     requires is { IsBlock (length blocks.now) block.now }
-    ensures { OnOk result (rows.new.items ≡ rows.old.items ++ rows_of (target_row blocks.now start block.now.labels) block.now.insns block.now.targets) }
+    requires fit { HaveKeys rows.old.items }
+    ensures rows { OnOk result (rows.new.items ≡ rows.old.items ++ rows_of (target_row blocks.now start block.now.labels) block.now.insns block.now.targets) }
+    ensures fit { OnOk result (HaveKeys rows.new.items) }
 {
     let jumps = block.targets.as_slice();
     for (i, insn) in block.insns.as_slice().iter().enumerate() {
@@ -120,7 +136,8 @@ fn add_rows(
 pub(crate) fn rows(alloc: Global, starts: &[u32], blocks: &[Block]) -> Result<Vec<Row>, AllocError>
     requires starts { AreStarts blocks.now starts.now }
     requires are { AllByRecursion (IsBlock (length blocks.now)) blocks.now }
-    ensures { IfOk result (λ all. all.items ≡ rows blocks.now) }
+    ensures rows { IfOk result (λ all. all.items ≡ rows blocks.now) }
+    ensures fit { IfOk result (λ all. HaveKeys all.items) }
 {
     let mut all = Vec::new(alloc);
     for (i, block) in blocks.iter().enumerate() {

@@ -1,11 +1,11 @@
 use Rattle.std.proofs.Common.{◌≡◌, ◌∙◌, arith, sym, ap, ℕ, length, refl}
-use Rattle.code_layout.proofs.Starts.{start_within, start_all, blocks_first, blocks_more}
+use Rattle.code_layout.proofs.Starts.{start_within, start_all, blocks_first, blocks_more, no_keys}
 use Rattle.std.specs.Prelude.{◌<◌, get_or}
 use Rattle.code_layout.specs.Blocks.{start_of, row_count}
 use Rattle.code_layout.proofs.row.rows.Goals as goal
 
 pub loop-i-init : goal.loop-i-init
-loop-i-init c = blocks_first c.args.blocks.now c.new-all.result.items c.new-all.ensures.items
+loop-i-init c = (no_keys c.new-all.result.items c.new-all.ensures.items, blocks_first c.args.blocks.now c.new-all.result.items c.new-all.ensures.items)
 
 pub add_rows-requires-clause-small : goal.add_rows-requires-clause-small
 add_rows-requires-clause-small c =
@@ -17,4 +17,4 @@ add_rows-requires-clause-small c =
 
 pub loop-i-preserved : goal.loop-i-preserved
 loop-i-preserved c =
-    blocks_more c.args.blocks.now c.loop-i.i _ c.index-blocks-i.result c.loop-i.all.items _ _ (omega arith) c.index-blocks-i.is (c.requires.starts.each c.loop-i.i (omega arith)) c.in_ok-add_rows.ensures c.loop-i.invariant
+    (c.in_ok-add_rows.ensures.fit, blocks_more c.args.blocks.now c.loop-i.i _ c.index-blocks-i.result c.loop-i.all.items _ _ (omega arith) c.index-blocks-i.is (c.requires.starts.each c.loop-i.i (omega arith)) c.in_ok-add_rows.ensures.rows c.loop-i.invariant.1)
