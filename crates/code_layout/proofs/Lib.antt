@@ -20,3 +20,4 @@ pub mod Placing
 pub mod Rounds
 pub mod Putting
 pub mod Settling
+pub mod Testing

@@ -124,7 +124,7 @@ module _ (f : ℕ → ℤ) where
 
   -- ---- tables
 
-  last_key : (n : ℕ) (g : ℕ → ℤ) (i : ℕ) (d : ℤ) → i < n → get_or (numbered n g) i d ≡ g i
+  pub last_key : (n : ℕ) (g : ℕ → ℤ) (i : ℕ) (d : ℤ) → i < n → get_or (numbered n g) i d ≡ g i
   last_key zero g i d lt = absurd (omega arith)
   last_key (suc n) g i d lt =
       elim (cases_lt i n) [

@@ -11,7 +11,10 @@ use Rattle.code_layout.specs.declared.layout_fault.LayoutFault.{LayoutFault}
 use Rattle.code_layout.specs.declared.layout_fault.LayoutFault.TheVariants as faults
 use Rattle.code_layout.specs.declared.block.Block.{Block}
 use Rattle.code_layout.specs.declared.row.Row.{Row}
-use Rattle.code_layout.specs.Blocks.{Leads, start_of, row_count}
+use Rattle.code_layout.specs.declared.method_code.MethodCode.{MethodCode}
+use Rattle.code_layout.specs.declared.method_code.LineTable.{LineTable}
+use Rattle.code_layout.specs.declared.method_code.VariableTable.{VariableTable}
+use Rattle.code_layout.specs.Blocks.{Leads, start_of, row_count, IsOldEntry, IsLine, IsVariable}
 use Rattle.code_layout.specs.Places.{goto_w, wide_jump, is_short, is_test, opposite, first_wide, other_wide, place_of, end_of, AreWidened}
 
 -- ---- bytes
@@ -84,6 +87,12 @@ abbrev pub IsReached : Bool → Insn → ℤ → Type 0
 IsReached true insn distance = IsShortInsn insn
 IsReached false (insn.Branch op offset) distance = FitsBranch (form_of op) distance
 IsReached false insn distance = Unit {0}
+
+-- what the old tables name is there
+pub record HasTables (count : ℕ) (old : MethodCode) : Type 0 where
+  pub entries : AllByRecursion (IsOldEntry count) old.entries
+  pub lines : AllByRecursion (λ (t : LineTable). AllByRecursion (IsLine count) t.rows) old.lines
+  pub variables : AllByRecursion (λ (t : VariableTable). AllByRecursion (IsVariable count) t.rows) old.variables
 
 -- ---- what one step gives the next
 

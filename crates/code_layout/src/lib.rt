@@ -12,6 +12,7 @@ mod layout;
 mod layout_fault;
 mod method_code;
 mod places;
+mod ready;
 mod row;
 mod tables;
 mod taking;
@@ -23,6 +24,7 @@ pub use fault::TakeApartFault;
 pub use layout::lay_out;
 pub use layout_fault::LayoutFault;
 pub use method_code::{CodeEntry, Jump, Line, LineTable, MethodCode, Variable, VariableTable};
+pub use ready::is_layable;
 pub use taking::take_apart;
 
 #[cfg(test)]
