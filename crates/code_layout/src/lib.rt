@@ -29,3 +29,6 @@ pub use taking::take_apart;
 
 #[cfg(test)]
 mod tests;
+
+#[cfg(test)]
+mod again_tests;
