@@ -1,0 +1,9 @@
+pub mod Runs
+pub mod Trimmed
+pub mod Digits
+pub mod FieldLists
+pub mod WordLists
+pub mod PieceLists
+pub mod CaseLists
+pub mod Spaced
+pub mod NumbersRead
