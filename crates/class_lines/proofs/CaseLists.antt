@@ -26,7 +26,7 @@ pub op_found : (op : ℕ) (word : Text) → op < 202 → op_below op word ≡ No
 unfolding op_named
 op_found op word lt none same =
     let here : op_below (suc op) word ≡ Some op =
-        ap (λ (o : Option ℕ). option_or o (if bytes_eq (mnemonic_of op) word then Some op else None)) none ∙ ap (λ (t : Bool). if t then Some op else None) same in
+    ap (λ (o : Option ℕ). option_or o (if bytes_eq (mnemonic_of op) word then Some op else None)) none ∙ ap (λ (t : Bool). if t then Some op else None) same in
     op_stays (suc op) 202 op word (omega arith) here
 
 -- none has it

@@ -48,18 +48,18 @@ once radix most value (d ∷ digits) some fits =
     let all : ℕ = digits_value_after radix v digits in
     elim (cases_Bool (is_digit radix d)) [
       | inr isnt ↦
-        ap (λ (t : Bool). and_on (λ v. with_digits radix most v digits) (if t && nat_le v most then Some v else None)) isnt
-        ∙ sym (ap (λ (t : Bool). if (t && list_all (is_digit radix) digits) && nat_le all most then Some all else None) isnt)
+          ap (λ (t : Bool). and_on (λ v. with_digits radix most v digits) (if t && nat_le v most then Some v else None)) isnt
+          ∙ sym (ap (λ (t : Bool). if (t && list_all (is_digit radix) digits) && nat_le all most then Some all else None) isnt)
       | inl digit ↦ elim (cases_Bool (nat_le v most)) [
-          | inl small ↦
+        | inl small ↦
             passed radix most value d digits _ digit small refl
             ∙ once radix most v digits some (leb-true v most small)
             ∙ sym (ap (λ (t : Bool). if (t && list_all (is_digit radix) digits) && nat_le all most then Some all else None) digit)
-          | inr large ↦
+        | inr large ↦
             ap (λ (t : Bool). and_on (λ v. with_digits radix most v digits) (if t && nat_le v most then Some v else None)) digit
             ∙ ap (λ (t : Bool). and_on (λ v. with_digits radix most v digits) (if t then Some v else None)) large
             ∙ sym (ap (λ (t : Bool). if list_all (is_digit radix) (d ∷ digits) && t then Some all else None) (lt-leb all most (omega (arith, grows radix v digits some, leb-false v most large))) ∙ none_anyway (list_all (is_digit radix) (d ∷ digits)) all)
-        ]
+      ]
     ]
   where
     none_anyway : (t : Bool) (n : ℕ) → (if t && false then Some n else None) ≡ None

@@ -5,7 +5,7 @@ use Rattle.std.proofs.lemmas.Bool.{cases_Bool, eqb-true, ne_eqb, eq-eqb}
 use Rattle.std.proofs.lemmas.List.{append-nil}
 use Rattle.class_lines.specs.Fields.{is_blank, is_inside, run_of, behind_run, trimmed, field_and, fields_in, fields}
 
-behind_le : (test : ℕ → Bool) (xs : List ℕ) → length (behind_run test xs) ≤ length xs
+pub behind_le : (test : ℕ → Bool) (xs : List ℕ) → length (behind_run test xs) ≤ length xs
 behind_le test [] = omega arith
 behind_le test (b ∷ rest) =
     elim (cases_Bool (test b)) [
@@ -13,7 +13,7 @@ behind_le test (b ∷ rest) =
       | inr isnt ↦ let e : length (behind_run test (b ∷ rest)) ≡ length (b ∷ rest) = ap (λ (t : Bool). length (if t then behind_run test rest else b ∷ rest)) isnt in omega (arith, e)
     ]
 
-behind_again : (test : ℕ → Bool) (xs : List ℕ) → behind_run test (behind_run test xs) ≡ behind_run test xs
+pub behind_again : (test : ℕ → Bool) (xs : List ℕ) → behind_run test (behind_run test xs) ≡ behind_run test xs
 behind_again test [] = refl
 behind_again test (b ∷ rest) =
     let whole : Bool → List ℕ = λ t. if t then behind_run test rest else b ∷ rest in
@@ -23,13 +23,13 @@ behind_again test (b ∷ rest) =
     ]
 
 -- the first byte is no blank
-begins_inside : (b : ℕ) (rest : List ℕ) → behind_run is_blank (b ∷ rest) ≡ b ∷ rest → is_blank b ≡ false
+pub begins_inside : (b : ℕ) (rest : List ℕ) → behind_run is_blank (b ∷ rest) ≡ b ∷ rest → is_blank b ≡ false
 begins_inside b rest h =
     elim (cases_Bool (is_blank b)) [
       | inr isnt ↦ isnt
       | inl is_so ↦
-        let e : length (behind_run is_blank rest) ≡ length (b ∷ rest) = ap (λ (t : Bool). length (if t then behind_run is_blank rest else b ∷ rest)) (sym is_so) ∙ ap length h in
-        absurd (omega (arith, e, behind_le is_blank rest))
+          let e : length (behind_run is_blank rest) ≡ length (b ∷ rest) = ap (λ (t : Bool). length (if t then behind_run is_blank rest else b ∷ rest)) (sym is_so) ∙ ap length h in
+          absurd (omega (arith, e, behind_le is_blank rest))
     ]
 
 -- the fields of the line are those that were found, and those of the rest, which begins with no blank
@@ -51,7 +51,7 @@ pub found_begins : (line rest : List ℕ) (found : List (List ℕ)) → found �
 found_begins line rest found none e = subst (λ (f : List (List ℕ)). Found line rest f) (sym none) (begins line rest e)
 
 -- behind a field less is left
-field_shorter : (b : ℕ) (rest : List ℕ) → is_blank b ≡ false → length (behind_run is_blank (behind_run is_inside (b ∷ rest))) ≤ length rest
+pub field_shorter : (b : ℕ) (rest : List ℕ) → is_blank b ≡ false → length (behind_run is_blank (behind_run is_inside (b ∷ rest))) ≤ length rest
 field_shorter b rest isnt =
     let e : length (behind_run is_inside (b ∷ rest)) ≡ length (behind_run is_inside rest) = ap (λ (t : Bool). length (if not t then behind_run is_inside rest else b ∷ rest)) isnt in
     omega (arith, e, behind_le is_blank (behind_run is_inside (b ∷ rest)), behind_le is_inside rest)

@@ -7,3 +7,6 @@ pub mod PieceLists
 pub mod CaseLists
 pub mod Spaced
 pub mod NumbersRead
+pub mod TextRead
+pub mod HeadsRead
+pub mod OperationsRead

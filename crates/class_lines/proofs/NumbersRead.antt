@@ -12,6 +12,7 @@ use Rattle.std.proofs.lemmas.Int.Digits.{digits_value_push}
 use Rattle.class_lines.specs.Fields.{is_inside}
 use Rattle.class_lines.specs.Words.{Text, is_plain}
 use Rattle.class_lines.specs.Numbers.{is_digit, number, natural, integer, hexadecimal}
+use Rattle.class_lines.specs.Operations.{is_key_byte}
 use Rattle.class_lines.specs.Printing.{hex_digit, hex_digits}
 
 digits_pass : (ds : Text) → AllDigits 10 ds → list_all (is_digit 10) ds ≡ true
@@ -71,3 +72,14 @@ pub plain_signed : (z : ℤ) (most : ℕ) → most < 2 ^ 63 → Within most z �
 plain_signed (pos n) most small le = plain_decimal n (omega arith)
 plain_signed (negsuc n) most small le =
     let is = decimal_is_IsNumeral (suc n) (omega arith) in inside_digits (decimal (suc n)) is.0.1
+
+key_digits : (ds : Text) → AllDigits 10 ds → list_all is_key_byte ds ≡ true
+key_digits [] h = refl
+key_digits (d ∷ ds) h =
+    let range = digit_from_value d h.0 in
+    and_from (is_key_byte d) (list_all is_key_byte ds) (ap not (ne_eqb d 58 (λ e. omega (arith, e, range.0, range.1)))) (key_digits ds h.1)
+
+-- a number has no colon
+pub key_signed : (z : ℤ) (most : ℕ) → most < 2 ^ 63 → Within most z → list_all is_key_byte (signed_decimal z) ≡ true
+key_signed (pos n) most small le = key_digits (decimal n) (decimal_is_IsNumeral n (omega arith)).0.1
+key_signed (negsuc n) most small le = key_digits (decimal (suc n)) (decimal_is_IsNumeral (suc n) (omega arith)).0.1

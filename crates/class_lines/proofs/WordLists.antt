@@ -24,10 +24,10 @@ step kind w words e =
     elim (cases_Bool (fits kind w)) [
       | inr isnt ↦ ap (λ (t : Bool). if t then before (w ∷ []) (each_of kind words) else None) isnt ∙ sym (ap (λ (t : Bool). all_or (w ∷ words) (t && list_all (fits kind) words)) isnt)
       | inl is_so ↦
-        ap (λ (t : Bool). if t then before (w ∷ []) (each_of kind words) else None) is_so
-        ∙ ap (before (w ∷ [])) e
-        ∙ inside (list_all (fits kind) words)
-        ∙ sym (ap (λ (t : Bool). all_or (w ∷ words) (t && list_all (fits kind) words)) is_so)
+          ap (λ (t : Bool). if t then before (w ∷ []) (each_of kind words) else None) is_so
+          ∙ ap (before (w ∷ [])) e
+          ∙ inside (list_all (fits kind) words)
+          ∙ sym (ap (λ (t : Bool). all_or (w ∷ words) (t && list_all (fits kind) words)) is_so)
     ]
   where
     inside : (t : Bool) → before (w ∷ []) (all_or words t) ≡ all_or (w ∷ words) t

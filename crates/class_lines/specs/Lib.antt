@@ -6,3 +6,4 @@ pub mod Heads
 pub mod Operations
 pub mod Reading
 pub mod Printing
+pub mod Lines

@@ -1,6 +1,7 @@
 -- How a line is printed.
 use Rattle.std.specs.Prelude.{◌≡◌, ℕ, zero, suc, ◌+◌, ◌/◌, ◌%◌, ◌==◌, Bool, true, false, ◌||◌, nat_lt, if◌then◌else◌, List, [], ◌∷◌, ◌++◌, map, codes, Option, Some, None, ℤ, refl}
 use Rattle.std.specs.List.{flat_map}
+use Rattle.std.specs.Char.{digit_char}
 use Rattle.std.specs.Fmt.{decimal, signed_decimal}
 use Rattle.opcode_table.specs.Table.{mnemonic_of}
 use Rattle.class_lines.specs.declared.line.Line.{Line}
@@ -20,10 +21,10 @@ all_spaced words = flat_map spaced words
 -- ---- numbers
 
 abbrev pub hex_digit : ℕ → ℕ
-hex_digit n = if nat_lt n 10 then 48 + n else 87 + n
+hex_digit n = digit_char n
 
 -- so many digits of a number in base 16, from the last on
-abbrev pub hex_digits : ℕ → ℕ → Text
+unfoldable pub hex_digits : ℕ → ℕ → Text
 hex_digits zero n = []
 hex_digits (suc count) n = hex_digits count (n / 16) ++ hex_digit (n % 16) ∷ []
 

@@ -58,11 +58,20 @@ pub enum Operation {
     /// `sipush`, with what it pushes.
     Sipush(i16),
     /// A load or a store of a local variable, or `ret`.
-    Local { op: u8, index: u16 },
+    Local {
+        op: u8,
+        index: u16,
+    },
     /// `iinc`.
-    Iinc { index: u16, by: i16 },
+    Iinc {
+        index: u16,
+        by: i16,
+    },
     /// `ldc` and `ldc_w`.
-    Constant { op: u8, constant: Constant },
+    Constant {
+        op: u8,
+        constant: Constant,
+    },
     /// `ldc2_w` of a long.
     Long(i64),
     /// `ldc2_w` of the bits of a double.
@@ -75,13 +84,22 @@ pub enum Operation {
         descriptor: ByteString,
     },
     /// `new`, `anewarray`, `checkcast` and `instanceof`.
-    Class { op: u8, class: ByteString },
+    Class {
+        op: u8,
+        class: ByteString,
+    },
     /// `newarray`, with the code of its type.
     NewArray(u8),
     /// `multianewarray`, with its number of dimensions.
-    Multi { class: ByteString, dims: u8 },
+    Multi {
+        class: ByteString,
+        dims: u8,
+    },
     /// A branch to a label.
-    Branch { op: u8, to: ByteString },
+    Branch {
+        op: u8,
+        to: ByteString,
+    },
     /// `tableswitch`: the labels of the keys from `low` on, and that of all others.
     TableSwitch {
         low: i32,

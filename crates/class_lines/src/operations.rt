@@ -212,12 +212,7 @@ fn wide_constant(words: &[&[u8]]) -> Result<Operation, LineFault>
 
 /// `CLASS NAME DESCRIPTOR`.
 #[tactic(auto, unfolding(crate::specs::Operations::member_at))]
-fn member(
-    alloc: Global,
-    op: u8,
-    words: &[&[u8]],
-    kind: WordKind,
-) -> Result<Operation, LineFault>
+fn member(alloc: Global, op: u8, words: &[&[u8]], kind: WordKind) -> Result<Operation, LineFault>
     ensures { Gives result (member_at kind op (texts words.now)) }
 {
     let (class, rest) = word(alloc, words, WordKind::TypeName)?;

@@ -122,10 +122,7 @@ fn put_quoted(out: &mut Vec<u8>, text: &[u8]) -> Result<(), AllocError>
     put(out, b"\"")
 }
 
-fn put_constant(
-    out: &mut Vec<u8>,
-    constant: &Constant,
-) -> Result<(), AllocError>
+fn put_constant(out: &mut Vec<u8>, constant: &Constant) -> Result<(), AllocError>
     ensures { OnOk result (out.new.items ≡ out.old.items ++ constant_text constant.now) }
 {
     match constant {
@@ -208,10 +205,7 @@ fn put_double(out: &mut Vec<u8>, bits: u64) -> Result<(), AllocError>
 }
 
 /// The operands, each behind a blank.
-fn put_operands(
-    out: &mut Vec<u8>,
-    operation: &Operation,
-) -> Result<(), AllocError>
+fn put_operands(out: &mut Vec<u8>, operation: &Operation) -> Result<(), AllocError>
     ensures { OnOk result (out.new.items ≡ out.old.items ++ operands_text operation.now) }
 {
     match operation {
@@ -259,10 +253,7 @@ fn put_operands(
 }
 
 /// A mnemonic and its operands, each behind a blank.
-fn put_operation(
-    out: &mut Vec<u8>,
-    operation: &Operation,
-) -> Result<(), AllocError>
+fn put_operation(out: &mut Vec<u8>, operation: &Operation) -> Result<(), AllocError>
     ensures { OnOk result (out.new.items ≡ out.old.items ++ operation_text operation.now) }
 {
     put_word(out, mnemonic(op_of(operation)).as_bytes())?;

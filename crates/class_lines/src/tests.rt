@@ -50,7 +50,10 @@ fn reads_heads(rt: HostRuntime) -> Result<(), LineFault> {
             b"method <init> (IJ)V flags 0 stack 1 locals 04",
             b"method <init> (IJ)V flags 0 stack 1 locals 4",
         ),
-        (b"method ask ()I flags 264 none", b"method ask ()I flags 264 none"),
+        (
+            b"method ask ()I flags 264 none",
+            b"method ask ()I flags 264 none",
+        ),
         (b"end", b"end"),
     ];
     for (line, wanted) in table {
@@ -69,11 +72,17 @@ fn reads_instructions(rt: HostRuntime) -> Result<(), LineFault> {
         (b"iinc 3 -4", b"  iinc 3 -4"),
         (b"ldc -2147483648", b"  ldc -2147483648"),
         (b"ldc_w float:3f800000", b"  ldc_w float:3f800000"),
-        (b"ldc \"a \\\"b\\\" \\u0041\\n\"  ", b"  ldc \"a \\\"b\\\" A\\n\""),
+        (
+            b"ldc \"a \\\"b\\\" \\u0041\\n\"  ",
+            b"  ldc \"a \\\"b\\\" A\\n\"",
+        ),
         (b"ldc \"\\t\\\\\\'\"", b"  ldc \"\t\\\\'\""),
         (b"ldc \"\\u0000\\u00e9\"", b"  ldc \"\xc0\x80\xc3\xa9\""),
         (b"ldc java/lang/String", b"  ldc java/lang/String"),
-        (b"ldc2_w 9223372036854775807", b"  ldc2_w 9223372036854775807"),
+        (
+            b"ldc2_w 9223372036854775807",
+            b"  ldc2_w 9223372036854775807",
+        ),
         (
             b"ldc2_w double:3FF0000000000000",
             b"  ldc2_w double:3ff0000000000000",

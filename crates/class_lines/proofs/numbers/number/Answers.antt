@@ -7,7 +7,7 @@ pub returns-in_err-value-clause-exact : goal.returns-in_err-value-clause-exact
 returns-in_err-value-clause-exact c =
     let low = c.requires.low in
     let none : number c.args.radix c.args.most c.args.digits.now ≡ None =
-        number_fails c.args.radix c.args.most c.loop-digit.value c.loop-digit.digit-index c.args.digits.now (omega arith) (omega arith) c.loop-digit.invariant.0 (search rules) in
+    number_fails c.args.radix c.args.most c.loop-digit.value c.loop-digit.digit-index c.args.digits.now (omega arith) (omega arith) c.loop-digit.invariant.0 (search rules) in
     search (rules, none)
 
 pub returns-else-is_empty-clause-exact : goal.returns-else-is_empty-clause-exact
