@@ -74,10 +74,10 @@ fields_natural_end word n plain small = ap fields (sym (append-nil (natural_text
 pub fields_all_end : (words : List Text) → all_plain words ≡ true → fields (all_spaced words) ≡ words
 fields_all_end words plain = ap fields (sym (append-nil (all_spaced words))) ∙ fields_all words [] plain refl ∙ append-nil words
 
-abbrev head_words : MemberHead → List Text
+abbrev pub head_words : MemberHead → List Text
 head_words head = head.name ∷ head.descriptor ∷ codes "flags" ∷ decimal head.flags ∷ []
 
-fields_head : (kind : WordKind) (head : MemberHead) (rest : Text) → is_head kind head ≡ true → ends rest ≡ true → fields (head_text head ++ rest) ≡ head_words head ++ fields rest
+pub fields_head : (kind : WordKind) (head : MemberHead) (rest : Text) → is_head kind head ≡ true → ends rest ≡ true → fields (head_text head ++ rest) ≡ head_words head ++ fields rest
 fields_head kind head rest is h =
     let parts = and_parts (fits WordKind.MemberName head.name) (fits kind head.descriptor && nat_le head.flags 65535) is in
     let others = and_parts (fits kind head.descriptor) (nat_le head.flags 65535) parts.1 in
@@ -166,7 +166,7 @@ pub bare_read : (head : MemberHead) → is_head WordKind.MethodDescriptor head �
 unfolding any_method_at
 bare_read head is few = rw (no_code head is, no_static head (decimal head.flags ∷ codes "none" ∷ []), bare_read_at head is few) refl
 
-abbrev interface_words : List Text → List Text
+abbrev pub interface_words : List Text → List Text
 interface_words [] = []
 interface_words (name ∷ names) = codes "interface" ∷ name ∷ names
 

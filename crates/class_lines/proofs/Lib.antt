@@ -10,3 +10,4 @@ pub mod NumbersRead
 pub mod TextRead
 pub mod HeadsRead
 pub mod OperationsRead
+pub mod LinesRead

@@ -83,7 +83,7 @@ fields_spaced w rest plain h = fields_blank (w ++ rest) ∙ fields_word w rest p
 abbrev pub all_plain : List Text → Bool
 all_plain words = list_all is_plain words
 
-spaced_ends : (words : List Text) (rest : Text) → ends rest ≡ true → ends (all_spaced words ++ rest) ≡ true
+pub spaced_ends : (words : List Text) (rest : Text) → ends rest ≡ true → ends (all_spaced words ++ rest) ≡ true
 spaced_ends [] rest h = h
 spaced_ends (w ∷ words) rest h = refl
 

@@ -1,8 +1,10 @@
 //! How a line is printed.
 
-ghost use Rattle.std.specs.Prelude.{◌≡◌, ◌++◌, ◌<◌, ◌∷◌, [], map, codes, option_copied, OnOk};
+ghost use Rattle.std.specs.Prelude.{◌≡◌, ◌++◌, ◌<◌, ◌∷◌, [], map, codes, option_copied, Some, true, OnOk};
 ghost use Rattle.std.specs.Fmt.{decimal, signed_decimal};
 ghost use Rattle.std.specs.List.{flat_map};
+ghost use Rattle.class_lines.specs.Lines.{is_line};
+ghost use Rattle.class_lines.specs.Reading.{read_as};
 ghost use Rattle.class_lines.specs.Printing.{spaced, all_spaced, natural_text, hex_digit, hex_digits, escape, quote, constant_text, case_text, default_text, op_of, operands_text, operation_text, head_text, interfaces_text, label_text, caught_text, line_text};
 
 use crate::line::{Case, Constant, Line, MemberHead, Operation};
@@ -312,9 +314,8 @@ fn put_labels(
     put_word(out, handler.as_slice())
 }
 
-/// Adds a line to a text, without a line feed. The instructions and the exception table of a method
-/// stand two blanks from the left.
-pub fn put_line(out: &mut Vec<u8>, line: &Line) -> Result<(), AllocError>
+/// Adds a line to a text.
+fn put_text(out: &mut Vec<u8>, line: &Line) -> Result<(), AllocError>
     ensures { OnOk result (out.new.items ≡ out.old.items ++ line_text line.now) }
 {
     match line {
@@ -369,4 +370,14 @@ pub fn put_line(out: &mut Vec<u8>, line: &Line) -> Result<(), AllocError>
         }
         Line::End => put(out, b"end"),
     }
+}
+
+/// Adds a line to a text, without a line feed. The instructions and the exception table of a method
+/// stand two blanks from the left.
+pub fn put_line(out: &mut Vec<u8>, line: &Line) -> Result<(), AllocError>
+    ensures text { OnOk result (out.new.items ≡ out.old.items ++ line_text line.now) }
+    // A line of the form is read back from its text.
+    ensures read_back { is_line line.now ≡ true → read_as (line_text line.now) ≡ Some (Some line.now) }
+{
+    put_text(out, line)
 }
