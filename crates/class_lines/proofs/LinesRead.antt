@@ -268,8 +268,8 @@ class_line words = refl
 field_line_read : (head : MemberHead) → is_head WordKind.FieldDescriptor head ≡ true → read_as (line_text (Line.Field head)) ≡ Some (Some (Line.Field head))
 field_line_read head h =
     let is : fields (line_text (Line.Field head)) ≡ codes "field" ∷ head_words head =
-        fields_word (codes "field") (head_text head) refl refl
-        ∙ ap (λ (l : List Text). codes "field" ∷ l) (ap fields (sym (append-nil (head_text head))) ∙ fields_head WordKind.FieldDescriptor head [] h refl) in
+    fields_word (codes "field") (head_text head) refl refl
+    ∙ ap (λ (l : List Text). codes "field" ∷ l) (ap fields (sym (append-nil (head_text head))) ∙ fields_head WordKind.FieldDescriptor head [] h refl) in
     read_fields (line_text (Line.Field head)) (codes "field") (head_words head) (Line.Field head) is refl (field_line (head_words head) ∙ field_read head h)
 
 method_line_read : (head : MemberHead) (stack locals : ℕ) → is_line (Line.Method head stack locals) ≡ true → read_as (line_text (Line.Method head stack locals)) ≡ Some (Some (Line.Method head stack locals))
@@ -282,11 +282,11 @@ method_line_read head stack locals h =
     let rest : Text = natural_text (codes "stack") stack ++ natural_text (codes "locals") locals in
     let words : List Text = head_words head ++ codes "stack" ∷ decimal stack ∷ codes "locals" ∷ decimal locals ∷ [] in
     let is : fields (line_text (Line.Method head stack locals)) ≡ codes "method" ∷ words =
-        ap (λ (t : Text). fields (codes "method" ++ t)) (append_assoc (head_text head) (natural_text (codes "stack") stack) (natural_text (codes "locals") locals))
-        ∙ fields_word (codes "method") (head_text head ++ rest) refl refl
-        ∙ ap (λ (w : List Text). codes "method" ∷ w) (fields_head WordKind.MethodDescriptor head rest parts.0 refl
-        ∙ ap (λ (w : List Text). head_words head ++ w) (fields_natural (codes "stack") stack (natural_text (codes "locals") locals) refl (omega arith) refl
-        ∙ ap (λ (w : List Text). codes "stack" ∷ decimal stack ∷ w) (fields_natural_end (codes "locals") locals refl (omega arith)))) in
+    ap (λ (t : Text). fields (codes "method" ++ t)) (append_assoc (head_text head) (natural_text (codes "stack") stack) (natural_text (codes "locals") locals))
+    ∙ fields_word (codes "method") (head_text head ++ rest) refl refl
+    ∙ ap (λ (w : List Text). codes "method" ∷ w) (fields_head WordKind.MethodDescriptor head rest parts.0 refl
+    ∙ ap (λ (w : List Text). head_words head ++ w) (fields_natural (codes "stack") stack (natural_text (codes "locals") locals) refl (omega arith) refl
+    ∙ ap (λ (w : List Text). codes "stack" ∷ decimal stack ∷ w) (fields_natural_end (codes "locals") locals refl (omega arith)))) in
     read_fields (line_text (Line.Method head stack locals)) (codes "method") words (Line.Method head stack locals) is refl (method_line words ∙ method_read head stack locals parts.0 few.0 s l)
 
 bare_line_read : (head : MemberHead) → is_line (Line.Bare head) ≡ true → read_as (line_text (Line.Bare head)) ≡ Some (Some (Line.Bare head))
@@ -294,9 +294,9 @@ bare_line_read head h =
     let parts = and_parts (is_head WordKind.MethodDescriptor head) (takes_few head) h in
     let words : List Text = head_words head ++ codes "none" ∷ [] in
     let is : fields (line_text (Line.Bare head)) ≡ codes "method" ∷ words =
-        fields_word (codes "method") (head_text head ++ spaced (codes "none")) refl refl
-        ∙ ap (λ (w : List Text). codes "method" ∷ w) (fields_head WordKind.MethodDescriptor head (spaced (codes "none")) parts.0 refl
-        ∙ ap (λ (w : List Text). head_words head ++ w) (fields_one (codes "none") refl)) in
+    fields_word (codes "method") (head_text head ++ spaced (codes "none")) refl refl
+    ∙ ap (λ (w : List Text). codes "method" ∷ w) (fields_head WordKind.MethodDescriptor head (spaced (codes "none")) parts.0 refl
+    ∙ ap (λ (w : List Text). head_words head ++ w) (fields_one (codes "none") refl)) in
     read_fields (line_text (Line.Bare head)) (codes "method") words (Line.Bare head) is refl (method_line words ∙ bare_read head parts.0 parts.1)
 
 fields_interfaces : (names : List Text) → list_all (fits WordKind.ClassName) names ≡ true → fields (interfaces_text names) ≡ interface_words names
@@ -323,13 +323,13 @@ class_line_read name super version flags interfaces h =
     let rest : Text = natural_text (codes "version") version ++ end in
     let words : List Text = name ∷ codes "super" ∷ super ∷ codes "version" ∷ decimal version ∷ codes "flags" ∷ decimal flags ∷ interface_words interfaces in
     let is : fields (line_text line) ≡ codes "class" ∷ words =
-        ap (λ (t : Text). fields (codes "class" ++ t))
-        (append_assoc (all_spaced names ++ natural_text (codes "version") version) (natural_text (codes "flags") flags) (interfaces_text interfaces) ∙ append_assoc (all_spaced names) (natural_text (codes "version") version) end)
-        ∙ fields_word (codes "class") (all_spaced names ++ rest) refl refl
-        ∙ ap (λ (w : List Text). codes "class" ∷ w) (fields_all names rest plain refl
-        ∙ ap (λ (w : List Text). names ++ w) (fields_natural (codes "version") version end refl (omega arith) refl
-        ∙ ap (λ (w : List Text). codes "version" ∷ decimal version ∷ w) (fields_natural (codes "flags") flags (interfaces_text interfaces) refl (omega arith) (interfaces_end interfaces)
-        ∙ ap (λ (w : List Text). codes "flags" ∷ decimal flags ∷ w) (fields_interfaces interfaces f.1)))) in
+    ap (λ (t : Text). fields (codes "class" ++ t))
+    (append_assoc (all_spaced names ++ natural_text (codes "version") version) (natural_text (codes "flags") flags) (interfaces_text interfaces) ∙ append_assoc (all_spaced names) (natural_text (codes "version") version) end)
+    ∙ fields_word (codes "class") (all_spaced names ++ rest) refl refl
+    ∙ ap (λ (w : List Text). codes "class" ∷ w) (fields_all names rest plain refl
+    ∙ ap (λ (w : List Text). names ++ w) (fields_natural (codes "version") version end refl (omega arith) refl
+    ∙ ap (λ (w : List Text). codes "version" ∷ decimal version ∷ w) (fields_natural (codes "flags") flags (interfaces_text interfaces) refl (omega arith) (interfaces_end interfaces)
+    ∙ ap (λ (w : List Text). codes "flags" ∷ decimal flags ∷ w) (fields_interfaces interfaces f.1)))) in
     read_fields (line_text line) (codes "class") words line is refl (class_line words ∙ class_read name super version flags interfaces n.0 s.0 v.0 few f.1)
 
 end_read : read_as (codes "end") ≡ Some (Some Line.End)
