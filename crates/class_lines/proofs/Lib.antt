@@ -11,3 +11,4 @@ pub mod TextRead
 pub mod HeadsRead
 pub mod OperationsRead
 pub mod LinesRead
+pub mod FormRead

@@ -12,7 +12,7 @@ use Rattle.class_lines.specs.Operations.{operation_at}
 -- the label before the colon at the end of a word
 unfoldable pub label_before : Text → Option Text
 label_before word =
-    if nat_lt 0 (length word) && slice_index word (length word - 1) == 58 && fits WordKind.Label (take (length word - 1) word)
+    if nat_lt 0 (length word) && (slice_index word (length word - 1) == 58 && fits WordKind.Label (take (length word - 1) word))
     then Some (take (length word - 1) word) else None
 
 abbrev pub labelled_at : Text → List Text → Option Line

@@ -1,8 +1,9 @@
 //! What a line is.
 
-ghost use Rattle.std.specs.Prelude.{◌≡◌, option_copied};
+ghost use Rattle.std.specs.Prelude.{◌≡◌, true, option_copied, IfOk, IfSome};
 ghost use Rattle.class_lines.specs.Words.{Gives, texts, ended};
 ghost use Rattle.class_lines.specs.declared.line.Line.{Line};
+ghost use Rattle.class_lines.specs.Lines.{is_line};
 ghost use Rattle.class_lines.specs.Reading.{label_before, labelled_at, unlabelled_at, step_at, caught_at, catch_at, line_at, is_passed_over, read_as};
 
 use crate::fault::LineFault;
@@ -140,15 +141,9 @@ fn is_passed_over(words: &[&[u8]]) -> bool
     }
 }
 
-/// What a line of a text says, or nothing where it has blanks alone or a comment, which begins with
-/// `;`. The line has no line feed. Names and descriptors in it are in modified UTF-8, as those of a
-/// class file, and blanks stand between its fields.
-///
-/// # Errors
-/// `Form` where it is no line of class text. `Memory`.
+/// What a line says, or nothing.
 #[tactic(auto, unfolding(crate::specs::Reading::read_as))]
-pub fn read_line(alloc: Global, line: &[u8]) -> Result<Option<Line>, LineFault>
-    // What is answered is what the line says, or that it says nothing, unless memory runs out.
+fn read(alloc: Global, line: &[u8]) -> Result<Option<Line>, LineFault>
     ensures { Gives result (read_as line.now) }
 {
     let words = fields(alloc, line)?;
@@ -156,4 +151,19 @@ pub fn read_line(alloc: Global, line: &[u8]) -> Result<Option<Line>, LineFault>
         return Ok(None);
     }
     Ok(Some(line_of(alloc, words.as_slice())?))
+}
+
+/// What a line of a text says, or nothing where it has blanks alone or a comment, which begins with
+/// `;`. The line has no line feed. Names and descriptors in it are in modified UTF-8, as those of a
+/// class file, and blanks stand between its fields.
+///
+/// # Errors
+/// `Form` where it is no line of class text. `Memory`.
+pub fn read_line(alloc: Global, line: &[u8]) -> Result<Option<Line>, LineFault>
+    // What is answered is what the line says, or that it says nothing, unless memory runs out.
+    ensures exact { Gives result (read_as line.now) }
+    // What it says is of the form, and so is read back from its text.
+    ensures form { IfOk result (λ found. IfSome found (λ line. is_line line ≡ true)) }
+{
+    read(alloc, line)
 }
