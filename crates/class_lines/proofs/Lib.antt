@@ -4,6 +4,7 @@ pub mod Digits
 pub mod FieldLists
 pub mod WordLists
 pub mod PieceLists
+pub mod CodeLists
 pub mod CaseLists
 pub mod Spaced
 pub mod NumbersRead

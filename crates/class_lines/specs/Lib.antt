@@ -7,3 +7,4 @@ pub mod Operations
 pub mod Reading
 pub mod Printing
 pub mod Lines
+pub mod Recoding

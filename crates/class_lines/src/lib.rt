@@ -11,6 +11,7 @@ mod operations;
 mod printing;
 mod quotes;
 mod reading;
+mod recoding;
 mod words;
 
 pub use fault::LineFault;
