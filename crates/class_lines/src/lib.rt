@@ -12,12 +12,14 @@ mod printing;
 mod quotes;
 mod reading;
 mod recoding;
+mod text;
 mod words;
 
 pub use fault::LineFault;
 pub use line::{Case, Constant, Line, MemberHead, Operation};
 pub use printing::put_line;
 pub use reading::read_line;
+pub use text::{TextLine, text_lines};
 
 #[cfg(test)]
 mod tests;

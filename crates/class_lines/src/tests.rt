@@ -1,4 +1,5 @@
 use super::*;
+use std::alloc::AllocError;
 
 /// What a line is printed as, or nothing where it is no line or says nothing.
 fn printed(rt: &HostRuntime, line: &[u8]) -> Result<Option<Vec<u8>>, LineFault> {
@@ -183,4 +184,37 @@ fn passes_over_comments(rt: HostRuntime) {
     for line in table {
         assert!(rt; is_passed_over(&rt, line));
     }
+}
+
+#[test]
+fn numbers_lines(rt: HostRuntime) -> Result<(), AllocError> {
+    let text = "; a class\nclass C\u{e9} super D version 48\n\nfield x\n  end";
+    let lines = text_lines(rt.alloc(), text.as_bytes())?;
+    // The number of each line that says something, and whether it is of the form.
+    let wanted = [(2, true), (4, false), (5, true)];
+    assert_eq!(rt; lines.len(), wanted.len());
+    for (line, (number, is_line)) in lines.as_slice().iter().zip(wanted) {
+        assert_eq!(rt; line.number, number);
+        assert_eq!(rt; line.line.is_some(), is_line);
+    }
+    Ok(())
+}
+
+#[test]
+fn refuses_other_codes(rt: HostRuntime) -> Result<(), AllocError> {
+    let table: [&[u8]; 6] = [
+        b"new C\x80",
+        b"new C\xc0\x80",
+        b"new C\xe0\x80\x80",
+        b"new C\xed\xa0\x80",
+        b"new C\xf4\x90\x80\x80",
+        b"new C\xf0\x9f\x98",
+    ];
+    for line in table {
+        let lines = text_lines(rt.alloc(), line)?;
+        assert!(rt; lines.len() == 1 && lines.as_slice()[0].line.is_none());
+    }
+    let lines = text_lines(rt.alloc(), "new C\u{1f600}".as_bytes())?;
+    assert!(rt; lines.len() == 1 && lines.as_slice()[0].line.is_some());
+    Ok(())
 }
