@@ -1,0 +1,16 @@
+pub mod Runs
+pub mod Trimmed
+pub mod Digits
+pub mod FieldLists
+pub mod WordLists
+pub mod PieceLists
+pub mod CodeLists
+pub mod LineLists
+pub mod CaseLists
+pub mod Spaced
+pub mod NumbersRead
+pub mod TextRead
+pub mod HeadsRead
+pub mod OperationsRead
+pub mod LinesRead
+pub mod FormRead

@@ -1,0 +1,11 @@
+pub mod Fields
+pub mod Numbers
+pub mod Words
+pub mod Quotes
+pub mod Heads
+pub mod Operations
+pub mod Reading
+pub mod Printing
+pub mod Lines
+pub mod Recoding
+pub mod Numbered

@@ -1,0 +1,25 @@
+//! The lines of class text: what a person writes a class file as (The Java Virtual Machine
+//! Specification, second edition, chapter 4), line by line.
+#![tactic(auto)]
+
+mod fault;
+mod fields;
+mod heads;
+mod line;
+mod numbers;
+mod operations;
+mod printing;
+mod quotes;
+mod reading;
+mod recoding;
+mod text;
+mod words;
+
+pub use fault::LineFault;
+pub use line::{Case, Constant, Line, MemberHead, Operation};
+pub use printing::put_line;
+pub use reading::read_line;
+pub use text::{TextLine, text_lines};
+
+#[cfg(test)]
+mod tests;
