@@ -1,19 +1,19 @@
 -- There is one refusal of an input, and none of a valid one.
-use Rattle.std.proofs.Common.{◌≡◌, ℕ, ◌<◌, ◌≤◌, ◌⊎◌, inl, inr, List, [], ◌∷◌, ◌++◌, length, Option, Some, None, Result, Err, refl, ap, sym, ◌∙◌, arith, slice_get}
+use Rattle.std.proofs.Common.{◌≡◌, ℕ, ◌<◌, ◌≤◌, ◌⊎◌, inl, inr, List, [], ◌∷◌, ◌++◌, Option, Some, None, Result, Err, refl, ap, sym, ◌∙◌, arith, slice_get}
 use Rattle.std.proofs.lemmas.Bool.{cases_order}
 use Rattle.std.proofs.lemmas.List.{append_cancel_left, append_assoc}
 use Rattle.std.proofs.lemmas.Option.{none-some, same_Some}
-use Rattle.aj_outside.specs.Files.{Files, names_under}
+use Rattle.aj_outside.specs.Files.{Files}
 use Rattle.class_file.specs.declared.types.ClassFile.{ClassFile}
 use Rattle.class_format.specs.declared.fault.ClassFault.{ClassFault}
 use Rattle.class_format.specs.Reading.{reading}
 use Rattle.class_heads.specs.declared.fault.WorldFault.{WorldFault}
-use Rattle.jp_model.specs.Input.{IsFirst, is_big, IsNotBuilt, inputs_in}
+use Rattle.jp_model.specs.Input.{IsNotBuilt, inputs_in}
 use Rattle.weave_plan.specs.Faults.{IsFirstFault}
 use Rattle.weave_plan.specs.Worlds.{classes_of}
 use Rattle.ajweave.specs.declared.status.Refusal.{Refusal}
 use Rattle.ajweave.specs.declared.status.Refusal.TheVariants.{ManyFiles, BigFile, Class, World, NotBuilt}
-use Rattle.ajweave.specs.Answers.{most_names, in_folder, AreReadable, IsRefused, IsValid}
+use Rattle.ajweave.specs.Answers.{most_names, in_folder, IsRefused, IsValid}
 use Rattle.ajweave.proofs.Worlds.{first_fault-same, sound-never_faulty}
 
 abbrev File : Type 0

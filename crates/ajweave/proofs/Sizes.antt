@@ -1,18 +1,16 @@
 -- The first file that is too long.
-use Rattle.std.proofs.Common.{◌≡◌, ℕ, zero, suc, ◌+◌, ◌<◌, ◌≤◌, Bool, true, false, cond, List, [], ◌∷◌, ◌++◌, length, take, drop, map, get_or, Option, Some, None, refl, ap, sym, ◌∙◌, subst, arith}
+use Rattle.std.proofs.Common.{◌≡◌, ℕ, zero, suc, ◌+◌, ◌<◌, ◌≤◌, Bool, true, false, cond, List, [], ◌∷◌, ◌++◌, length, take, drop, get_or, Option, Some, None, ap, sym, ◌∙◌, subst, arith}
 use Rattle.std.specs.List.{find}
 use Rattle.std.proofs.lemmas.Bool.{lt-ltb, le-ltb}
 use Rattle.std.proofs.lemmas.List.{take_more, map-append}
 use Rattle.std.proofs.lemmas.Option.{none-some}
 use Rattle.aj_outside.specs.Files.{Files}
-use Rattle.jp_model.specs.Input.{is_big, IsFirst}
+use Rattle.jp_model.specs.Input.{is_big}
 use Rattle.weave_plan.specs.declared.planning.NamedFile.{NamedFile}
 use Rattle.weave_plan.specs.Plan.{files_of}
-use Rattle.ajweave.specs.declared.status.Refusal.{Refusal}
 use Rattle.ajweave.specs.declared.status.Refusal.TheVariants.{BigFile}
 use Rattle.ajweave.specs.declared.stop.Stop.{Stop}
 use Rattle.ajweave.specs.declared.stop.Stop.TheVariants as stop
-use Rattle.ajweave.specs.Answers.{in_folder}
 use Rattle.ajweave.specs.Steps.{IsRefusal, IsNamed, IsBig}
 
 abbrev File : Type 0
