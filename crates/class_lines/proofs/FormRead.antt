@@ -1,11 +1,11 @@
 -- What is read is of the form.
-use Rattle.std.proofs.Common.{◌≡◌, ◌≢◌, ◌⊎◌, ℕ, zero, suc, ◌+◌, ◌-◌, ◌^◌, ◌<◌, ◌≤◌, Bool, true, false, not, ◌&&◌, List, [], ◌∷◌, ◌++◌, length, take, drop, Option, Some, None, refl, sym, ap, subst, ◌∙◌, arith, inl, inr, add-one}
-use Rattle.std.specs.Prelude.{if◌then◌else◌, ◌==◌, ◌||◌, nat_lt, nat_le, int_lt, map, option_map, codes, bit_or, slice_index, ℤ, pos, negsuc, neg_ℤ, ◌+ℤ◌, is_none, Result, Ok, Err, IfOk, IfSome}
+use Rattle.std.proofs.Common.{◌≡◌, ℕ, zero, suc, ◌+◌, ◌-◌, ◌^◌, ◌<◌, ◌≤◌, Bool, true, false, not, ◌&&◌, List, [], ◌∷◌, length, take, drop, Option, Some, None, refl, sym, ap, subst, ◌∙◌, arith, inl, inr}
+use Rattle.std.specs.Prelude.{if◌then◌else◌, ◌==◌, ◌||◌, nat_lt, nat_le, int_lt, option_map, codes, bit_or, slice_index, ℤ, pos, negsuc, neg_ℤ, ◌+ℤ◌, Result, Ok, Err, IfOk, IfSome}
 use Rattle.std.specs.Option.{option_or}
 use Rattle.std.specs.List.{list_all}
 use Rattle.std.specs.Str.{bytes_eq}
 use Rattle.std.specs.Str.Parse.{digits_value}
-use Rattle.std.proofs.lemmas.Bool.{and_parts, and_from, leb-true, le-leb, ltb-true, lt-ltb, ltb-false, leb-false, eqb-true, eq-eqb, ne_eqb, cases_Bool, not-true, false≢true}
+use Rattle.std.proofs.lemmas.Bool.{and_parts, and_from, leb-true, le-leb, ltb-true, lt-ltb, leb-false, eqb-true, cases_Bool, false≢true}
 use Rattle.std.proofs.lemmas.Nat.{or_lt}
 use Rattle.opcode_table.specs.declared.form.Form.{Form}
 use Rattle.opcode_table.specs.declared.form.Form.TheVariants as forms
@@ -20,14 +20,14 @@ use Rattle.class_lines.specs.declared.line.Constant.{Constant}
 use Rattle.class_lines.specs.declared.line.Case.{Case}
 use Rattle.class_lines.specs.declared.words.WordKind.{WordKind}
 use Rattle.class_lines.specs.declared.fault.LineFault.{LineFault}
-use Rattle.class_lines.specs.Fields.{is_inside, run_of, behind_run, fields}
-use Rattle.class_lines.specs.Words.{◌>>=◌, Text, is_plain, fits, keyword_at, word_at, words_at, natural_at, integer_at, number_after, ended, Gives}
+use Rattle.class_lines.specs.Fields.{fields}
+use Rattle.class_lines.specs.Words.{◌>>=◌, Text, fits, keyword_at, word_at, words_at, natural_at, integer_at, number_after, ended, Gives}
 use Rattle.class_lines.specs.Numbers.{is_digit, natural, integer, number, hexadecimal}
 use Rattle.class_lines.specs.Quotes.{is_text, quoted, inside_quotes, unescaped}
-use Rattle.class_lines.specs.Heads.{flags_at, interfaces_at, version_at, class_at, head_at, field_at, takes_few, method_at, bare_at, bare_of, static_field_at, static_method_at, any_field_at, any_method_at}
+use Rattle.class_lines.specs.Heads.{flags_at, interfaces_at, version_at, class_at, head_at, field_at, takes_few, method_at, bare_at, static_field_at, static_method_at, any_field_at, any_method_at}
 use Rattle.class_lines.specs.Operations.{op_below, op_named, byte_at, short_at, local_at, increment_at, array_code_at, behind, float_of, double_of, class_constant, constant_of, constant_at, wide_constant_at, member_at, type_at, dimensions_at, pool_at, branch_at, default_at, cases_at, table_at, label_behind, case_of, cases_above, lookup_at, by_form, operation_at}
-use Rattle.class_lines.specs.Reading.{label_before, labelled_at, unlabelled_at, labelled_or, step_at, caught_at, catch_at, line_at, is_passed_over, read_as}
-use Rattle.class_lines.specs.Lines.{is_integer, is_constant, are_cases, has_form, of_form, is_plain_form, is_local_form, is_branch_form, is_member_type, is_class_op, is_operation, is_head, is_label_or_none, is_caught, is_line}
+use Rattle.class_lines.specs.Reading.{label_before, labelled_or, step_at, caught_at, catch_at, line_at, is_passed_over, read_as}
+use Rattle.class_lines.specs.Lines.{is_integer, is_constant, are_cases, has_form, of_form, is_local_form, is_branch_form, is_member_type, is_class_op, is_operation, is_head, is_caught, is_line}
 
 -- ---- steps
 

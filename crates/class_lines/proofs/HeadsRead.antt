@@ -1,24 +1,22 @@
 -- The heads of classes, fields and methods that are printed are read again.
-use Rattle.std.proofs.Common.{◌≡◌, ℕ, zero, suc, ◌+◌, ◌-◌, ◌^◌, ◌<◌, ◌≤◌, Bool, true, false, not, ◌&&◌, List, [], ◌∷◌, ◌++◌, length, Option, Some, None, refl, sym, ap, subst, ◌∙◌, arith, inl, inr, append_assoc}
-use Rattle.std.specs.Prelude.{if◌then◌else◌, ◌==◌, nat_lt, nat_le, option_map, codes, bit_or, ℤ}
-use Rattle.std.specs.Option.{option_or}
-use Rattle.std.specs.List.{list_all, flat_map}
+use Rattle.std.proofs.Common.{◌≡◌, ℕ, ◌^◌, ◌<◌, ◌≤◌, Bool, true, false, ◌&&◌, List, [], ◌∷◌, ◌++◌, length, Some, None, refl, sym, ap, ◌∙◌, arith, inl, inr, append_assoc}
+use Rattle.std.specs.Prelude.{if◌then◌else◌, nat_lt, nat_le, option_map, codes, ℤ}
+use Rattle.std.specs.List.{list_all}
 use Rattle.std.specs.Str.{bytes_eq}
 use Rattle.std.specs.Fmt.{decimal, signed_decimal}
 use Rattle.std.specs.Int.Bits.{or_zero_r}
-use Rattle.std.proofs.lemmas.Bool.{and_parts, leb-true, le-leb, ltb-true, cases_Bool}
+use Rattle.std.proofs.lemmas.Bool.{and_parts, leb-true, ltb-true, cases_Bool}
 use Rattle.std.proofs.lemmas.List.{append-nil}
 use Rattle.class_file.specs.Text.{within}
 use Rattle.class_lines.specs.declared.line.Line.{Line}
 use Rattle.class_lines.specs.declared.line.MemberHead.{MemberHead}
 use Rattle.class_lines.specs.declared.words.WordKind.{WordKind}
 use Rattle.class_lines.specs.Fields.{fields}
-use Rattle.class_lines.specs.Words.{◌>>=◌, Text, is_plain, fits, is_of_kind, keyword_at, word_at, words_at, natural_at, integer_at, number_after, ended}
-use Rattle.class_lines.specs.Numbers.{natural, integer}
-use Rattle.class_lines.specs.Heads.{flags_at, interfaces_at, version_at, class_at, head_at, field_at, takes_few, method_at, bare_at, bare_of, static_field_at, static_method_at, any_field_at, any_method_at}
-use Rattle.class_lines.specs.Printing.{spaced, all_spaced, natural_text, head_text, interfaces_text, line_text}
-use Rattle.class_lines.specs.Lines.{is_head, is_line}
-use Rattle.class_lines.proofs.Spaced.{ends, fields_word, fields_spaced, fields_all, all_plain}
+use Rattle.class_lines.specs.Words.{◌>>=◌, Text, is_plain, fits, is_of_kind, keyword_at, word_at, words_at, natural_at, integer_at, number_after}
+use Rattle.class_lines.specs.Heads.{flags_at, interfaces_at, version_at, class_at, head_at, field_at, takes_few, method_at, bare_at, static_method_at, any_field_at, any_method_at}
+use Rattle.class_lines.specs.Printing.{spaced, all_spaced, natural_text, head_text}
+use Rattle.class_lines.specs.Lines.{is_head}
+use Rattle.class_lines.proofs.Spaced.{ends, fields_spaced, fields_all, all_plain}
 use Rattle.class_lines.proofs.NumbersRead.{natural_decimal, integer_decimal, plain_decimal, Within}
 
 -- ---- words

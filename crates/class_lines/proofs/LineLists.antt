@@ -1,7 +1,7 @@
 -- The lines of a text, one by one.
-use Rattle.std.proofs.Common.{◌≡◌, ℕ, zero, suc, ◌+◌, ◌-◌, ◌<◌, ◌≤◌, Bool, true, false, not, cond, take, drop, List, [], ◌∷◌, ◌++◌, length, refl, sym, ap, subst, ◌∙◌, arith, inl, inr, append_assoc}
-use Rattle.std.specs.Prelude.{if◌then◌else◌, ◌==◌}
-use Rattle.std.specs.List.{slice_split, onto_first}
+use Rattle.std.proofs.Common.{◌≡◌, ℕ, zero, suc, ◌+◌, ◌-◌, ◌<◌, ◌≤◌, Bool, not, cond, take, drop, List, [], ◌∷◌, ◌++◌, length, refl, sym, ap, ◌∙◌, arith, inl, inr, append_assoc}
+use Rattle.std.specs.Prelude.{if◌then◌else◌}
+use Rattle.std.specs.List.{onto_first}
 use Rattle.std.proofs.lemmas.Bool.{cases_Bool}
 use Rattle.std.proofs.lemmas.List.{append-nil}
 use Rattle.class_lines.specs.declared.text.TextLine.{TextLine}
@@ -20,12 +20,12 @@ split_first [] = refl
 split_first (b ∷ text) =
     elim (cases_Bool (is_feed b)) [
       | inl feed ↦
-        ap (λ (t : Bool). cond t ([] ∷ split text) (onto_first b (split text))) feed
-        ∙ sym (ap (λ (t : Bool). (if not t then b ∷ run_of is_in_line text else []) ∷ others (if not t then behind_run is_in_line text else b ∷ text)) feed)
+          ap (λ (t : Bool). cond t ([] ∷ split text) (onto_first b (split text))) feed
+          ∙ sym (ap (λ (t : Bool). (if not t then b ∷ run_of is_in_line text else []) ∷ others (if not t then behind_run is_in_line text else b ∷ text)) feed)
       | inr inside ↦
-        ap (λ (t : Bool). cond t ([] ∷ split text) (onto_first b (split text))) inside
-        ∙ ap (onto_first b) (split_first text)
-        ∙ sym (ap (λ (t : Bool). (if not t then b ∷ run_of is_in_line text else []) ∷ others (if not t then behind_run is_in_line text else b ∷ text)) inside)
+          ap (λ (t : Bool). cond t ([] ∷ split text) (onto_first b (split text))) inside
+          ∙ ap (onto_first b) (split_first text)
+          ∙ sym (ap (λ (t : Bool). (if not t then b ∷ run_of is_in_line text else []) ∷ others (if not t then behind_run is_in_line text else b ∷ text)) inside)
     ]
 
 -- the lines of the text are those that were found, and those of the rest

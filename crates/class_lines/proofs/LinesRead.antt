@@ -1,16 +1,16 @@
 -- A line that is printed is read again.
-use Rattle.std.proofs.Common.{◌≡◌, ◌≢◌, ◌⊎◌, ℕ, zero, suc, ◌+◌, ◌-◌, ◌^◌, ◌<◌, ◌≤◌, Bool, true, false, not, ◌&&◌, List, [], ◌∷◌, ◌++◌, length, take, get_or, Option, Some, None, refl, sym, ap, subst, ◌∙◌, arith, inl, inr, append_assoc, length-append}
-use Rattle.std.specs.Prelude.{if◌then◌else◌, ◌==◌, ◌||◌, nat_lt, nat_le, int_lt, map, option_map, codes, ℤ, negsuc, is_none}
-use Rattle.std.specs.List.{list_all, flat_map}
+use Rattle.std.proofs.Common.{◌≡◌, ◌⊎◌, ℕ, ◌-◌, ◌^◌, ◌<◌, Bool, true, false, not, ◌&&◌, List, [], ◌∷◌, ◌++◌, length, Option, Some, None, refl, sym, ap, ◌∙◌, arith, inl, inr, append_assoc, length-append}
+use Rattle.std.specs.Prelude.{◌==◌, ◌||◌, nat_lt, nat_le, int_lt, map, codes, ℤ, negsuc, is_none}
+use Rattle.std.specs.List.{list_all}
 use Rattle.std.specs.Str.{bytes_eq}
 use Rattle.std.specs.Fmt.{decimal, signed_decimal}
-use Rattle.std.proofs.lemmas.Bool.{and_parts, and_from, leb-true, ltb-true, lt-ltb, eq-eqb, cases_Bool, not-true, false≢true}
+use Rattle.std.proofs.lemmas.Bool.{and_parts, and_from, leb-true, ltb-true, lt-ltb, cases_Bool, not-true, false≢true}
 use Rattle.std.proofs.lemmas.List.{append-nil}
 use Rattle.std.proofs.lemmas.List.Folds.{list_all-append}
 use Rattle.std.proofs.lemmas.Slice.Eq.{bytes_eq-Decides}
 use Rattle.std.proofs.Math.Seq.{take-append_seam, get_or-append_seam}
 use Rattle.opcode_table.specs.Table.{mnemonic_of}
-use Rattle.class_file.specs.Text.{within, dimensions}
+use Rattle.class_file.specs.Text.{within}
 use Rattle.class_lines.specs.declared.line.Line.{Line}
 use Rattle.class_lines.specs.declared.line.MemberHead.{MemberHead}
 use Rattle.class_lines.specs.declared.line.Operation.{Operation}
@@ -18,17 +18,16 @@ use Rattle.class_lines.specs.declared.line.Constant.{Constant}
 use Rattle.class_lines.specs.declared.line.Case.{Case}
 use Rattle.class_lines.specs.declared.words.WordKind.{WordKind}
 use Rattle.class_lines.specs.Fields.{is_inside, fields}
-use Rattle.class_lines.specs.Words.{◌>>=◌, Text, is_plain, is_label_byte, is_label, is_of_kind, fits, word_at, ended}
+use Rattle.class_lines.specs.Words.{Text, is_plain, is_label_byte, fits}
 use Rattle.class_lines.specs.Heads.{class_at, any_field_at, any_method_at, takes_few}
-use Rattle.class_lines.specs.Operations.{operation_at}
-use Rattle.class_lines.specs.Reading.{label_before, labelled_at, unlabelled_at, labelled_or, step_at, caught_at, catch_at, line_at, is_passed_over, read_as}
-use Rattle.class_lines.specs.Printing.{spaced, all_spaced, natural_text, hex_digits, quote, constant_text, case_text, default_text, op_of, operands_text, operation_text, head_text, interfaces_text, label_text, caught_text, line_text}
+use Rattle.class_lines.specs.Reading.{label_before, step_at, caught_at, catch_at, line_at, is_passed_over, read_as}
+use Rattle.class_lines.specs.Printing.{spaced, all_spaced, natural_text, hex_digits, constant_text, case_text, default_text, op_of, operands_text, operation_text, head_text, interfaces_text, caught_text, line_text}
 use Rattle.class_lines.specs.Lines.{is_integer, is_constant, is_member_type, are_cases, is_operation, is_head, is_label_or_none, is_caught, is_line}
 use Rattle.class_lines.proofs.Spaced.{ends, fields_word, fields_blank, fields_spaced, fields_all, all_plain, spaced_ends}
-use Rattle.class_lines.proofs.NumbersRead.{plain_decimal, plain_signed, Within}
+use Rattle.class_lines.proofs.NumbersRead.{plain_decimal, plain_signed}
 use Rattle.class_lines.proofs.TextRead.{inside_hex, fields_quote}
 use Rattle.class_lines.proofs.HeadsRead.{fits_plain, fit_plain, word_read, fields_natural, fields_natural_end, fields_all_end, fields_head, head_words, interface_words, field_read, method_read, bare_read, class_read}
-use Rattle.class_lines.proofs.OperationsRead.{within_of, operand_words, is_mnemonic, no_keyword, operation_read}
+use Rattle.class_lines.proofs.OperationsRead.{within_of, operand_words, no_keyword, operation_read}
 
 -- ---- plain words
 

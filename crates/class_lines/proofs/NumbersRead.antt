@@ -1,19 +1,17 @@
 -- Numbers that are printed are read again.
-use Rattle.std.proofs.Common.{◌≡◌, ℕ, zero, suc, ◌+◌, ◌*◌, ◌/◌, ◌%◌, ◌-◌, ◌^◌, ◌<◌, ◌≤◌, Bool, true, false, not, ◌&&◌, List, [], ◌∷◌, ◌++◌, length, Option, Some, None, refl, sym, ap, subst, ◌∙◌, arith, inl, inr, length-append}
-use Rattle.std.specs.Prelude.{if◌then◌else◌, ◌==◌, nat_lt, nat_le, ℤ, pos, negsuc, neg_ℤ, option_map}
+use Rattle.std.proofs.Common.{◌≡◌, ℕ, suc, ◌^◌, ◌<◌, ◌≤◌, Bool, true, not, ◌&&◌, [], ◌∷◌, length, Some, None, refl, ap, ◌∙◌, arith}
+use Rattle.std.specs.Prelude.{if◌then◌else◌, ◌==◌, nat_le, ℤ, pos, negsuc, neg_ℤ, option_map}
 use Rattle.std.specs.List.{list_all}
 use Rattle.std.specs.Char.{digit_value}
 use Rattle.std.specs.Str.Parse.{AllDigits, digits_value}
 use Rattle.std.specs.Fmt.{decimal, signed_decimal}
-use Rattle.std.proofs.lemmas.Bool.{lt-ltb, le-leb, and_from, ne_eqb, eq-eqb}
+use Rattle.std.proofs.lemmas.Bool.{lt-ltb, le-leb, and_from, ne_eqb}
 use Rattle.std.proofs.lemmas.Fmt.{decimal_is_IsNumeral}
 use Rattle.std.proofs.lemmas.Str.Parse.{digit_from_value}
-use Rattle.std.proofs.lemmas.Int.Digits.{digits_value_push}
 use Rattle.class_lines.specs.Fields.{is_inside}
 use Rattle.class_lines.specs.Words.{Text, is_plain}
-use Rattle.class_lines.specs.Numbers.{is_digit, number, natural, integer, hexadecimal}
+use Rattle.class_lines.specs.Numbers.{is_digit, number, natural, integer}
 use Rattle.class_lines.specs.Operations.{is_key_byte}
-use Rattle.class_lines.specs.Printing.{hex_digit, hex_digits}
 
 digits_pass : (ds : Text) → AllDigits 10 ds → list_all (is_digit 10) ds ≡ true
 digits_pass [] h = refl

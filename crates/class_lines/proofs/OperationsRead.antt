@@ -1,13 +1,11 @@
 -- Instructions that are printed are read again.
-use Rattle.std.proofs.Common.{◌≡◌, ◌≢◌, ◌⊎◌, ℕ, zero, suc, ◌+◌, ◌-◌, ◌^◌, ◌<◌, ◌≤◌, Bool, true, false, not, ◌&&◌, List, [], ◌∷◌, ◌++◌, length, take, drop, Option, Some, None, refl, sym, ap, subst, ◌∙◌, arith, inl, inr, append_assoc, length-append}
+use Rattle.std.proofs.Common.{◌≡◌, ◌≢◌, ◌⊎◌, ℕ, ◌+◌, ◌-◌, ◌^◌, ◌<◌, ◌≤◌, Bool, true, false, not, ◌&&◌, List, [], ◌∷◌, ◌++◌, length, Option, Some, None, refl, sym, ap, subst, ◌∙◌, arith, inl, inr, length-append}
 use Rattle.std.specs.Prelude.{if◌then◌else◌, ◌==◌, ◌||◌, nat_lt, nat_le, int_lt, map, option_map, codes, ℤ, pos, negsuc, ◌+ℤ◌, is_none}
-use Rattle.std.specs.Option.{option_or}
-use Rattle.std.specs.List.{list_all, flat_map}
+use Rattle.std.specs.List.{list_all}
 use Rattle.std.specs.Str.{bytes_eq}
-use Rattle.std.specs.Str.Parse.{AllDigits, digits_value}
+use Rattle.std.specs.Str.Parse.{digits_value}
 use Rattle.std.specs.Fmt.{decimal, signed_decimal}
-use Rattle.std.proofs.lemmas.Bool.{and_parts, and_from, leb-true, ltb-true, lt-ltb, eqb-true, ne_eqb, cases_Bool, cases_eq, lt-leb, le-ltb, le-leb, eq-eqb, not-true, false≢true}
-use Rattle.std.proofs.lemmas.List.{append-nil}
+use Rattle.std.proofs.lemmas.Bool.{and_parts, and_from, leb-true, ltb-true, lt-ltb, eqb-true, ne_eqb, cases_eq, lt-leb, le-ltb, le-leb, eq-eqb, not-true, false≢true}
 use Rattle.std.proofs.Math.Seq.{take-append_seam, drop-append_seam}
 use Rattle.opcode_table.specs.declared.form.Form.{Form}
 use Rattle.opcode_table.specs.declared.form.Form.TheVariants as forms
@@ -19,18 +17,17 @@ use Rattle.class_lines.specs.declared.line.Operation.{Operation}
 use Rattle.class_lines.specs.declared.line.Constant.{Constant}
 use Rattle.class_lines.specs.declared.line.Case.{Case}
 use Rattle.class_lines.specs.declared.words.WordKind.{WordKind}
-use Rattle.class_lines.specs.Fields.{is_inside, run_of, behind_run, fields}
-use Rattle.class_lines.specs.Words.{◌>>=◌, Text, is_plain, fits, keyword_at, word_at, words_at, natural_at, integer_at, ended}
-use Rattle.class_lines.specs.Numbers.{natural, integer, number, hexadecimal}
-use Rattle.class_lines.specs.Quotes.{is_text, quoted, inside_quotes}
-use Rattle.class_lines.specs.Operations.{op_below, op_named, byte_at, short_at, local_at, increment_at, array_code_at, behind, float_of, double_of, class_constant, constant_of, constant_at, wide_constant_at, member_at, type_at, dimensions_at, pool_at, branch_at, default_at, cases_at, table_at, label_behind, is_key_byte, case_of, cases_above, lookup_at, by_form, operation_at}
+use Rattle.class_lines.specs.Fields.{is_inside, run_of, behind_run}
+use Rattle.class_lines.specs.Words.{Text, is_plain, fits, keyword_at}
+use Rattle.class_lines.specs.Numbers.{integer, number}
+use Rattle.class_lines.specs.Quotes.{quoted, inside_quotes}
+use Rattle.class_lines.specs.Operations.{op_below, op_named, byte_at, short_at, local_at, increment_at, array_code_at, float_of, double_of, class_constant, constant_of, constant_at, wide_constant_at, member_at, type_at, dimensions_at, pool_at, branch_at, default_at, cases_at, table_at, label_behind, is_key_byte, case_of, cases_above, lookup_at, by_form, operation_at}
 use Rattle.class_lines.specs.Reading.{label_before, is_passed_over}
-use Rattle.class_lines.specs.Printing.{spaced, all_spaced, hex_digits, quote, constant_text, case_text, default_text, op_of, operands_text}
+use Rattle.class_lines.specs.Printing.{hex_digits, constant_text, case_text, op_of}
 use Rattle.class_lines.specs.Lines.{is_integer, is_constant, are_cases, has_form, of_form, is_plain_form, is_local_form, is_branch_form, is_member_type, is_class_op, is_operation}
-use Rattle.class_lines.proofs.Spaced.{ends, fields_word, fields_spaced, fields_all, all_plain}
-use Rattle.class_lines.proofs.NumbersRead.{natural_decimal, integer_decimal, plain_decimal, plain_signed, key_signed, Within}
-use Rattle.class_lines.proofs.TextRead.{length_hex, hexadecimal_hex, inside_hex, numbers, quoted_quote, fields_quote}
-use Rattle.class_lines.proofs.HeadsRead.{fits_plain, fit_plain, word_read, words_read, natural_read, integer_read, fields_all_end}
+use Rattle.class_lines.proofs.NumbersRead.{integer_decimal, plain_signed, key_signed, Within}
+use Rattle.class_lines.proofs.TextRead.{hexadecimal_hex, quoted_quote}
+use Rattle.class_lines.proofs.HeadsRead.{fits_plain, word_read, words_read, natural_read, integer_read}
 
 either_of : (a b : Bool) → (a || b) ≡ true → (a ≡ true) ⊎ (b ≡ true)
 either_of true b h = inl refl

@@ -1,13 +1,12 @@
 -- Words with blanks before them are the fields of their text.
-use Rattle.std.proofs.Common.{◌≡◌, ◌≢◌, ℕ, zero, suc, ◌+◌, ◌<◌, ◌≤◌, Bool, true, false, not, ◌&&◌, List, [], ◌∷◌, ◌++◌, length, get_or, refl, sym, ap, subst, ◌∙◌, arith, inl, inr, append_assoc, length-append}
+use Rattle.std.proofs.Common.{◌≡◌, ℕ, zero, suc, ◌<◌, Bool, true, false, not, List, [], ◌∷◌, ◌++◌, length, refl, ap, ◌∙◌, arith, append_assoc, length-append}
 use Rattle.std.specs.Prelude.{if◌then◌else◌, ◌==◌}
-use Rattle.std.specs.List.{list_all, flat_map}
-use Rattle.std.proofs.lemmas.Bool.{cases_Bool, and_parts, not-true, false≢true}
-use Rattle.std.proofs.lemmas.List.{append-nil}
+use Rattle.std.specs.List.{list_all}
+use Rattle.std.proofs.lemmas.Bool.{and_parts, not-true, false≢true}
 use Rattle.class_lines.specs.Fields.{is_blank, is_inside, run_of, behind_run, trimmed, field_and, fields_in, fields}
 use Rattle.class_lines.specs.Words.{Text, is_plain}
 use Rattle.class_lines.specs.Printing.{spaced, all_spaced}
-use Rattle.class_lines.proofs.FieldLists.{behind_le, behind_again, begins_inside, field_shorter}
+use Rattle.class_lines.proofs.FieldLists.{behind_le, behind_again, begins_inside}
 
 -- ---- more turns find no more
 

@@ -1,17 +1,17 @@
 -- Hexadecimal numbers and texts in quotes that are printed are read again.
-use Rattle.std.proofs.Common.{◌≡◌, ℕ, zero, suc, ◌+◌, ◌*◌, ◌/◌, ◌%◌, ◌-◌, ◌^◌, ◌<◌, ◌≤◌, Bool, true, false, not, ◌&&◌, List, [], ◌∷◌, ◌++◌, length, take, get_or, Option, Some, None, refl, sym, ap, subst, ◌∙◌, arith, inl, inr, length-append, append_assoc}
-use Rattle.std.specs.Prelude.{if◌then◌else◌, ◌==◌, ◌||◌, nat_lt, nat_le, option_map, codes}
+use Rattle.std.proofs.Common.{◌≡◌, ℕ, zero, suc, ◌*◌, ◌/◌, ◌%◌, ◌-◌, ◌<◌, ◌≤◌, Bool, true, false, not, ◌&&◌, [], ◌∷◌, ◌++◌, length, take, get_or, Option, Some, None, refl, sym, ap, subst, ◌∙◌, arith, inl, inr, length-append}
+use Rattle.std.specs.Prelude.{if◌then◌else◌, ◌==◌, ◌||◌, nat_le, option_map, codes}
 use Rattle.std.specs.List.{list_all, flat_map}
-use Rattle.std.specs.Char.{digit_value, digit_char}
+use Rattle.std.specs.Char.{digit_value}
 use Rattle.std.specs.Str.Parse.{digits_value}
-use Rattle.std.proofs.lemmas.Bool.{lt-ltb, le-leb, and_from, ne_eqb, eq-eqb, cases_Bool, cases_eq}
+use Rattle.std.proofs.lemmas.Bool.{lt-ltb, le-leb, and_from, ne_eqb, eq-eqb, cases_eq}
 use Rattle.std.proofs.lemmas.List.Folds.{list_all-append}
 use Rattle.std.proofs.lemmas.Str.{digit_value-digit_char}
 use Rattle.std.proofs.lemmas.Int.Digits.{digits_value_push}
 use Rattle.std.proofs.Math.Seq.{take-append_seam, get_or-append_seam}
 use Rattle.class_lines.specs.declared.quotes.Piece.{Piece}
-use Rattle.class_lines.specs.Fields.{is_inside, trimmed, fields}
-use Rattle.class_lines.specs.Words.{◌>>=◌, Text, is_plain}
+use Rattle.class_lines.specs.Fields.{is_inside, fields}
+use Rattle.class_lines.specs.Words.{◌>>=◌, Text}
 use Rattle.class_lines.specs.Numbers.{is_digit, number, hexadecimal}
 use Rattle.class_lines.specs.Quotes.{piece_bytes, piece_at, escape_at, pieces, unescaped, inside_quotes, is_text, quoted}
 use Rattle.class_lines.specs.Printing.{spaced, hex_digit, hex_digits, escape, quote}

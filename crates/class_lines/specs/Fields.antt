@@ -1,5 +1,5 @@
 -- The fields of a line: what stands between its blanks.
-use Rattle.std.specs.Prelude.{◌≡◌, ℕ, zero, suc, ◌==◌, Bool, true, false, not, if◌then◌else◌, List, [], ◌∷◌, length, codes, refl}
+use Rattle.std.specs.Prelude.{◌≡◌, ℕ, zero, suc, ◌==◌, Bool, not, if◌then◌else◌, List, [], ◌∷◌, length, codes, refl}
 use Rattle.std.specs.List.{list_all}
 
 abbrev pub is_blank : ℕ → Bool

@@ -1,13 +1,12 @@
 -- The lines of a class, a field and a method.
-use Rattle.std.specs.Prelude.{◌≡◌, ℕ, ◌==◌, Bool, true, false, not, ◌&&◌, nat_le, if◌then◌else◌, List, [], ◌∷◌, codes, bit_and, bit_or, Option, Some, None, option_map}
-use Rattle.std.specs.List.{list_all}
+use Rattle.std.specs.Prelude.{ℕ, ◌==◌, Bool, nat_le, if◌then◌else◌, List, [], ◌∷◌, codes, bit_and, bit_or, Option, Some, None}
 use Rattle.std.specs.Option.{option_or}
 use Rattle.std.specs.Str.{bytes_eq}
 use Rattle.class_file.specs.Text.{is_method_descriptor_with}
 use Rattle.class_lines.specs.declared.line.Line.{Line}
 use Rattle.class_lines.specs.declared.line.MemberHead.{MemberHead}
 use Rattle.class_lines.specs.declared.words.WordKind.{WordKind}
-use Rattle.class_lines.specs.Words.{◌>>=◌, Text, fits, keyword_at, word_at, words_at, natural_at, number_after, ended}
+use Rattle.class_lines.specs.Words.{◌>>=◌, Text, keyword_at, word_at, words_at, natural_at, number_after, ended}
 
 -- `flags N`, or what holds without it
 unfoldable pub flags_at : ℕ → List Text → Option (ℕ × List Text)

@@ -1,5 +1,5 @@
 -- Which lines are of the form: those that a text may have.
-use Rattle.std.specs.Prelude.{◌≡◌, ℕ, ◌+◌, ◌-◌, ◌^◌, ◌==◌, Bool, true, false, not, ◌&&◌, ◌||◌, nat_le, nat_lt, int_lt, if◌then◌else◌, List, [], ◌∷◌, length, codes, Option, Some, None, is_none, ℤ, pos, negsuc, ◌+ℤ◌}
+use Rattle.std.specs.Prelude.{ℕ, ◌+◌, ◌-◌, ◌^◌, ◌==◌, Bool, true, false, not, ◌&&◌, ◌||◌, nat_le, nat_lt, int_lt, List, [], ◌∷◌, length, codes, Option, Some, None, is_none, ℤ, pos, negsuc, ◌+ℤ◌}
 use Rattle.std.specs.List.{list_all}
 use Rattle.std.specs.Str.{bytes_eq}
 use Rattle.opcode_table.specs.declared.form.Form.{Form}

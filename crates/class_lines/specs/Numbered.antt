@@ -1,5 +1,5 @@
 -- The lines of a text, by their numbers.
-use Rattle.std.specs.Prelude.{◌≡◌, ℕ, suc, ◌==◌, Bool, true, false, not, List, [], ◌∷◌, ◌++◌, codes, Option, Some, None, refl}
+use Rattle.std.specs.Prelude.{ℕ, suc, ◌==◌, Bool, not, List, [], ◌∷◌, ◌++◌, Option, Some, None}
 use Rattle.std.specs.List.{slice_split}
 use Rattle.class_lines.specs.declared.line.Line.{Line}
 use Rattle.class_lines.specs.declared.text.TextLine.{TextLine}

@@ -1,8 +1,8 @@
 -- Texts in quotes: the bytes of modified UTF-8 that they stand for (JVMS 4.4.7).
-use Rattle.std.specs.Prelude.{◌≡◌, ℕ, zero, suc, ◌-◌, ◌==◌, Bool, true, false, not, ◌&&◌, ◌||◌, nat_le, nat_lt, if◌then◌else◌, List, [], ◌∷◌, ◌++◌, length, take, drop, codes, slice_index, Option, Some, None, option_map, refl}
+use Rattle.std.specs.Prelude.{ℕ, zero, suc, ◌-◌, ◌==◌, Bool, ◌&&◌, ◌||◌, nat_le, nat_lt, if◌then◌else◌, List, [], ◌∷◌, ◌++◌, length, take, drop, slice_index, Option, Some, None, option_map}
 use Rattle.aj_names.specs.ModifiedUtf8.{unit_spelling}
 use Rattle.class_file.specs.Text.{is_utf8}
-use Rattle.class_lines.specs.Numbers.{number, hexadecimal}
+use Rattle.class_lines.specs.Numbers.{hexadecimal}
 use Rattle.class_lines.specs.Words.{◌>>=◌}
 use Rattle.class_lines.specs.declared.quotes.Piece.{Piece}
 

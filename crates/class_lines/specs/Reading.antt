@@ -1,11 +1,10 @@
 -- What a line is.
-use Rattle.std.specs.Prelude.{◌≡◌, ℕ, ◌-◌, ◌==◌, Bool, true, false, not, ◌&&◌, nat_lt, if◌then◌else◌, List, [], ◌∷◌, length, take, codes, slice_index, Option, Some, None, option_map, refl}
-use Rattle.std.specs.Option.{option_or}
+use Rattle.std.specs.Prelude.{◌-◌, ◌==◌, Bool, true, false, ◌&&◌, nat_lt, if◌then◌else◌, List, [], ◌∷◌, length, take, codes, slice_index, Option, Some, None, option_map}
 use Rattle.std.specs.Str.{bytes_eq}
 use Rattle.class_lines.specs.declared.line.Line.{Line}
 use Rattle.class_lines.specs.declared.words.WordKind.{WordKind}
 use Rattle.class_lines.specs.Fields.{fields}
-use Rattle.class_lines.specs.Words.{◌>>=◌, Text, fits, keyword_at, word_at, ended}
+use Rattle.class_lines.specs.Words.{◌>>=◌, Text, fits, word_at, ended}
 use Rattle.class_lines.specs.Heads.{class_at, any_field_at, any_method_at}
 use Rattle.class_lines.specs.Operations.{operation_at}
 

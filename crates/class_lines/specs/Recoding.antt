@@ -1,5 +1,5 @@
 -- A line of a text in UTF-8, in the modified UTF-8 of a class file (JVMS 4.4.7): U+0000 takes two bytes, a character past U+FFFF two times three, and each other one the same bytes.
-use Rattle.std.specs.Prelude.{◌≡◌, ℕ, zero, suc, ◌+◌, ◌-◌, ◌*◌, ◌/◌, ◌%◌, ◌==◌, Bool, true, false, not, ◌&&◌, ◌||◌, if◌then◌else◌, List, [], ◌∷◌, ◌++◌, length, codes, Option, Some, None, option_map, refl}
+use Rattle.std.specs.Prelude.{◌≡◌, ℕ, zero, suc, ◌+◌, ◌-◌, ◌*◌, ◌/◌, ◌%◌, ◌==◌, Bool, ◌&&◌, if◌then◌else◌, [], ◌∷◌, ◌++◌, length, codes, Option, Some, None, option_map, refl}
 use Rattle.aj_names.specs.ModifiedUtf8.{text_spelling}
 use Rattle.class_file.specs.Text.{within}
 use Rattle.class_lines.specs.declared.recoding.Code.{Code}

@@ -1,4 +1,4 @@
-use Rattle.std.proofs.Common.{◌≡◌, ◌<◌, ◌∙◌, ap, rules, length}
+use Rattle.std.proofs.Common.{◌≡◌, ◌∙◌, ap, rules}
 use Rattle.class_lines.specs.Fields.{is_blank, is_inside, behind_run}
 use Rattle.class_lines.specs.Words.{texts}
 use Rattle.class_lines.proofs.WordLists.{texts_push}

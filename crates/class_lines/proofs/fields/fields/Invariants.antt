@@ -1,4 +1,4 @@
-use Rattle.std.proofs.Common.{◌≡◌, length}
+use Rattle.std.proofs.Common.{length}
 use Rattle.class_lines.specs.Words.{texts}
 use Rattle.class_lines.proofs.FieldLists.{Found}
 use Rattle.class_lines.proofs.fields.fields.Given as goal

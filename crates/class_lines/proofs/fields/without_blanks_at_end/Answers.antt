@@ -1,4 +1,4 @@
-use Rattle.std.proofs.Common.{◌∙◌, sym, rules}
+use Rattle.std.proofs.Common.{◌∙◌, sym}
 use Rattle.class_lines.proofs.Trimmed.{trimmed_less, trimmed_whole}
 use Rattle.class_lines.proofs.fields.without_blanks_at_end.Goals as goal
 

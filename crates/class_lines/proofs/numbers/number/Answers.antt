@@ -1,4 +1,4 @@
-use Rattle.std.proofs.Common.{◌≡◌, ◌∙◌, sym, arith, rules, None}
+use Rattle.std.proofs.Common.{◌≡◌, sym, arith, rules, None}
 use Rattle.class_lines.specs.Numbers.{number}
 use Rattle.class_lines.proofs.Digits.{number_fails, number_ends}
 use Rattle.class_lines.proofs.numbers.number.Goals as goal

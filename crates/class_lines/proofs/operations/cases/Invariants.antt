@@ -1,4 +1,4 @@
-use Rattle.std.proofs.Common.{◌≡◌, drop, ℤ, negsuc, ◌^◌}
+use Rattle.std.proofs.Common.{◌≡◌, drop, negsuc, ◌^◌}
 use Rattle.class_lines.specs.Words.{texts}
 use Rattle.class_lines.specs.Operations.{cases_above}
 use Rattle.class_lines.proofs.WordLists.{before}

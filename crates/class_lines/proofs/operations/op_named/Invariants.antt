@@ -1,4 +1,4 @@
-use Rattle.std.proofs.Common.{◌≡◌, Option, None, ℕ}
+use Rattle.std.proofs.Common.{◌≡◌, None}
 use Rattle.class_lines.specs.Operations.{op_below}
 use Rattle.class_lines.proofs.operations.op_named.Given as goal
 

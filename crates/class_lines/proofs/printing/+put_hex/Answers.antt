@@ -1,4 +1,4 @@
-use Rattle.std.proofs.Common.{◌≡◌, ◌++◌, ◌∷◌, [], ℕ, List, ◌-◌, ◌/◌, ◌%◌, ap, sym, ◌∙◌, rules, arith, append_assoc}
+use Rattle.std.proofs.Common.{◌++◌, ◌∷◌, [], ℕ, List, ◌-◌, ◌/◌, ◌%◌, ap, sym, ◌∙◌, rules, arith, append_assoc}
 use Rattle.std.proofs.lemmas.List.{append-nil}
 use Rattle.class_lines.specs.Printing.{hex_digit, hex_digits}
 use Rattle.class_lines.proofs.TextRead.{hex_more, hex_none}

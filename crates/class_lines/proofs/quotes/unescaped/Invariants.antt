@@ -1,4 +1,4 @@
-use Rattle.std.proofs.Common.{◌≡◌, length}
+use Rattle.std.proofs.Common.{length}
 use Rattle.class_lines.proofs.PieceLists.{Written}
 use Rattle.class_lines.proofs.quotes.unescaped.Given as goal
 

@@ -1,4 +1,4 @@
-use Rattle.std.proofs.Common.{◌≡◌, length}
+use Rattle.std.proofs.Common.{length}
 use Rattle.class_lines.proofs.CodeLists.{Recoded}
 use Rattle.class_lines.proofs.recoding.modified.Given as goal
 

@@ -1,4 +1,4 @@
-use Rattle.std.proofs.Common.{refl, arith}
+use Rattle.std.proofs.Common.{refl}
 use Rattle.class_lines.proofs.LineLists.{numbered_ends, numbered_more, shorter, nil_of, headed}
 use Rattle.class_lines.proofs.text.text_lines.Goals as goal
 
