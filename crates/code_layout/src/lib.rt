@@ -28,4 +28,6 @@ pub use ready::is_layable;
 pub use taking::take_apart;
 
 #[cfg(test)]
+mod layout_tests;
+#[cfg(test)]
 mod tests;
