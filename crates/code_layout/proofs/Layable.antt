@@ -33,7 +33,7 @@ use Rattle.code_layout.proofs.Laying.{AreShort, widened_short}
 
 -- ---- how many rows there are
 
-rows_of_length : (f : BlockTarget → ℕ) (insns : List Insn) (jumps : List (Jump BlockTarget)) → length jumps ≡ length insns → length (rows_of f insns jumps) ≡ length insns
+pub rows_of_length : (f : BlockTarget → ℕ) (insns : List Insn) (jumps : List (Jump BlockTarget)) → length jumps ≡ length insns → length (rows_of f insns jumps) ≡ length insns
 rows_of_length f [] jumps all = refl
 rows_of_length f (i ∷ insns) [] all = absurd (omega arith)
 rows_of_length f (i ∷ insns) (j ∷ jumps) all = omega (arith, rows_of_length f insns jumps (omega arith))

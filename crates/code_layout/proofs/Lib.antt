@@ -12,7 +12,9 @@ pub mod Words
 pub mod Standing
 pub mod Laying
 pub mod Layable
+pub mod Positions
 pub mod Whole
+pub mod Samples
 pub mod Branches
 pub mod Placing
 pub mod Rounds

@@ -13,12 +13,13 @@ use Rattle.code_layout.specs.declared.block.Block.{Block}
 use Rattle.code_layout.specs.declared.layout_fault.LayoutFault.{LayoutFault}
 use Rattle.code_layout.specs.declared.layout_fault.LayoutFault.TheVariants as faults
 use Rattle.code_layout.specs.declared.row.Row.{Row}
-use Rattle.code_layout.specs.Blocks.{IsBlock, AreLayable, rows, row_count}
+use Rattle.code_layout.specs.Blocks.{IsBlock, AreLayable, start_of, row_in, rows, row_count}
 use Rattle.code_layout.specs.Places.{place_of, end_of, AreWidened}
 use Rattle.code_layout.specs.Laid.{RowStands, own_entry, own_entries_from, old_entry, entries_of, attributes_of, own_count, entry_count, greatest, most_bytes, switches, IsLaidOut, IsLength, PassesLength, PassesEntries, IsLayoutFault}
 use Rattle.code_layout.specs.Spelled.{bytes_of, ArePlaces, AreSmall, HaveKeys, place_in}
 use Rattle.code_layout.proofs.Rising.{place_rises, place_at_most}
 use Rattle.code_layout.proofs.Laying.{laid_length, rows_stand}
+use Rattle.code_layout.proofs.Positions.{position}
 use Rattle.code_layout.proofs.Layable.{rows_length, are_rows, length_most, entries_same, attributes_same}
 
 -- ---- counts
@@ -92,9 +93,6 @@ module _ (blocks : List Block) (old : MethodCode) (rs : List Row) (wide : List B
     code_length : length code.code ≡ end_of (rows blocks) wide
     code_length = ap length own_bytes ∙ laid_length (rows blocks) wide (are_rows blocks layable.each) own_widened
 
-    pub code_most : length code.code ≤ most_bytes blocks + 3 * switches blocks
-    code_most = omega (arith, code_length, length_most blocks wide own_widened)
-
     own_length : (place : ℕ → ℕ) (start : ℕ) (others : List Block) → length (own_entries_from place blocks start others) ≡ own_count others
     own_length place start [] = refl
     own_length place start (b ∷ others) =
@@ -106,19 +104,22 @@ module _ (blocks : List Block) (old : MethodCode) (rs : List Row) (wide : List B
 
     pub is_laid_out : code.entries ≡ entries_of (place_in places) blocks old.entries → code.attributes ≡ attributes_of (place_in places) blocks old.lines old.variables → code.max_stack ≡ greatest old.max_stack (map (λ (b : Block). b.stack) blocks)
         → code.max_locals ≡ greatest old.max_locals (map (λ (b : Block). b.locals) blocks) → entry_count blocks old < 2 ^ 16 → IsLaidOut blocks old code
-    is_laid_out entries attributes stack locals few = record {
-      wide = wide;
-      widened = own_widened;
-      stands = rows_stand (rows blocks) wide (are_rows blocks layable.each) own_widened code.code own_bytes own_fits (subst HaveKeys is keys);
-      ends = code_length;
-      fits = omega (arith, code_length, own_fits);
-      rises = place_rises 0 (rows blocks) wide;
-      entries = entries ∙ entries_same (place_in places) (place_of (rows blocks) wide) blocks place_is old.entries layable.each;
-      few = omega (arith, entries_length entries);
-      attributes = attributes ∙ attributes_same (place_in places) (place_of (rows blocks) wide) blocks place_is old.lines old.variables;
-      stack = stack;
-      locals = locals;
-    }
+    is_laid_out entries attributes stack locals few =
+        let standing = rows_stand (rows blocks) wide (are_rows blocks layable.each) own_widened code.code own_bytes own_fits (subst HaveKeys is keys) in
+        record {
+          wide = wide;
+          widened = own_widened;
+          stands = standing;
+          at = λ k p b i j block insn jump. standing (start_of blocks k + p) (row_in blocks (start_of blocks k) b.labels i j) (position blocks k p b i j layable.each block insn jump);
+          ends = code_length;
+          fits = omega (arith, code_length, own_fits);
+          rises = place_rises 0 (rows blocks) wide;
+          entries = entries ∙ entries_same (place_in places) (place_of (rows blocks) wide) blocks place_is old.entries layable.each;
+          few = omega (arith, entries_length entries);
+          attributes = attributes ∙ attributes_same (place_in places) (place_of (rows blocks) wide) blocks place_is old.lines old.variables;
+          stack = stack;
+          locals = locals;
+        }
 
 -- ---- faults
 

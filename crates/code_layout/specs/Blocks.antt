@@ -101,6 +101,10 @@ target_row blocks start labels (target.Label l) = start + get_or labels l 0
 target_row blocks start labels (target.Old n) = start_of blocks n
 target_row blocks start labels target.Miss = start
 
+-- an instruction of a block, whose own first row is `start`, as a row
+abbrev pub row_in : List Block → ℕ → List ℕ → Insn → Jump BlockTarget → Row
+row_in blocks start labels i j = record { insn = i; jump = record { keys = j.keys; to = map (target_row blocks start labels) j.to } }
+
 abbrev pub rows_of : (BlockTarget → ℕ) → List Insn → List (Jump BlockTarget) → List Row
 rows_of row_of [] jumps = []
 rows_of row_of (i ∷ insns) [] = []

@@ -20,11 +20,12 @@ use Rattle.code_layout.specs.declared.method_code.VariableTable.{VariableTable}
 use Rattle.code_layout.specs.declared.method_code.MethodCode.{MethodCode}
 use Rattle.code_layout.specs.declared.block.Block.{Block}
 use Rattle.code_layout.specs.declared.block.BlockEntry.{BlockEntry}
+use Rattle.code_layout.specs.declared.block.BlockTarget.{BlockTarget}
 use Rattle.code_layout.specs.declared.layout_fault.LayoutFault.{LayoutFault}
 use Rattle.code_layout.specs.declared.layout_fault.LayoutFault.TheVariants as faults
 use Rattle.code_layout.specs.declared.row.Row.{Row}
 use Rattle.code_layout.specs.Apart.{keys_of}
-use Rattle.code_layout.specs.Blocks.{start_of, target_row, rows}
+use Rattle.code_layout.specs.Blocks.{start_of, target_row, row_in, rows}
 use Rattle.code_layout.specs.Places.{goto_w, wide_jump, is_test, opposite, place_of, end_of, AreWidened, most_bytes_insn, is_switch}
 
 -- ---- instructions
@@ -167,6 +168,9 @@ pub record IsLaidOut (blocks : List Block) (old : MethodCode) (code : CodeAttr) 
   pub widened : AreWidened (rows blocks) wide
   -- each row stands at its place
   pub stands : (i : ℕ) (row : Row) → slice_get (rows blocks) i ≡ Some row → RowStands code.code (place_of (rows blocks) wide) i (get_or wide i false) row
+  -- so each instruction of a block stands at the place of its position in the block
+  pub at : (k p : ℕ) (b : Block) (i : Insn) (j : Jump BlockTarget) → slice_get blocks k ≡ Some b → slice_get b.insns p ≡ Some i → slice_get b.targets p ≡ Some j
+      → RowStands code.code (place_of (rows blocks) wide) (start_of blocks k + p) (get_or wide (start_of blocks k + p) false) (row_in blocks (start_of blocks k) b.labels i j)
   pub ends : length code.code ≡ end_of (rows blocks) wide
   pub fits : length code.code < 2 ^ 16
   -- places rise with rows

@@ -1,10 +1,10 @@
 //! Blocks laid out as code.
 
-ghost use Rattle.std.specs.Prelude.{◌≡◌, ◌+◌, ◌*◌, ◌^◌, ◌<◌, ◌≤◌, length, map, IfOk, IfErr, IfSome};
+ghost use Rattle.std.specs.Prelude.{◌≡◌, ℕ, ◌+◌, ◌*◌, ◌^◌, ◌<◌, ◌≤◌, length, map, IfOk, IfErr, IfSome};
 ghost use Rattle.code_layout.specs.declared.block.Block.{Block};
 ghost use Rattle.code_layout.specs.Blocks.{AreLayable, rows};
 ghost use Rattle.code_layout.specs.Places.{AreWidened, end_of};
-ghost use Rattle.code_layout.specs.Laid.{IsLaidOut, IsLayoutFault, most_bytes, switches, own_count, entry_count, greatest};
+ghost use Rattle.code_layout.specs.Laid.{IsLaidOut, IsLayoutFault, IsLength, most_bytes, switches, own_count, entry_count, greatest};
 ghost use Rattle.code_layout.specs.Spelled.{AreStarts, ArePlaces, HaveKeys};
 
 use crate::block::Block;
@@ -75,7 +75,6 @@ fn laid(
     requires fits { end_of all.now layout.now.wide.items < 2 ^ 16 }
     requires few { entry_count blocks.now old.now < 2 ^ 16 }
     ensures laid { IfOk result (IsLaidOut blocks.now old.now) }
-    ensures short { IfOk result (λ code. length code.code ≤ most_bytes blocks.now + 3 * switches blocks.now) }
     ensures few { IfOk result (λ code. length code.entries ≡ own_count blocks.now + length old.now.entries) }
 {
     let places = layout.places.as_slice();
@@ -93,24 +92,11 @@ fn laid(
     })
 }
 
-/// The code that the blocks are laid out as, one behind the other, each in the place of the old
-/// instruction of its number (JVMS 4.7.3).
-///
-/// A branch whose offset passes 16 bits is widened: `goto` to `goto_w`, `jsr` to `jsr_w`, and a test to
-/// the opposite test over a `goto_w`. Switches are padded anew. The blocks' own entries of the exception
-/// table stand before the old ones, whose ranges cover whole blocks. The rows of lines and of local
-/// variables follow their blocks. The greatest room and number of locals count.
-///
-/// # Errors
-/// `TooLong` with the length in bytes, if it is more than 65535, else `TooManyEntries` with the number
-/// of entries, if it is more than 65535. `Memory`.
-pub fn lay_out(alloc: Global, blocks: &[Block], old: &MethodCode) -> Result<CodeAttr, LayoutFault>
+/// The code of the blocks, or why it does not fit.
+fn code_or_fault(alloc: Global, blocks: &[Block], old: &MethodCode) -> Result<CodeAttr, LayoutFault>
     requires { AreLayable blocks.now old.now }
     ensures laid { IfOk result (IsLaidOut blocks.now old.now) }
-    // Which fault: that of the length comes first.
     ensures fault { IfErr result (IsLayoutFault blocks.now old.now) }
-    // No more bytes than the blocks have with every branch widened, and three for each switch.
-    ensures short { IfOk result (λ code. length code.code ≤ most_bytes blocks.now + 3 * switches blocks.now) }
     ensures few { IfOk result (λ code. length code.entries ≡ own_count blocks.now + length old.now.entries) }
 {
     let starts = starts(alloc, blocks)?;
@@ -137,4 +123,30 @@ pub fn lay_out(alloc: Global, blocks: &[Block], old: &MethodCode) -> Result<Code
         &layout,
     )?;
     Ok(code)
+}
+
+/// The code that the blocks are laid out as, one behind the other, each in the place of the old
+/// instruction of its number (JVMS 4.7.3).
+///
+/// A branch whose offset passes 16 bits is widened: `goto` to `goto_w`, `jsr` to `jsr_w`, and a test to
+/// the opposite test over a `goto_w`. Switches are padded anew. The blocks' own entries of the exception
+/// table stand before the old ones, whose ranges cover whole blocks. The rows of lines and of local
+/// variables follow their blocks. The greatest room and number of locals count.
+///
+/// # Errors
+/// `TooLong` with the length in bytes, if it is more than 65535, else `TooManyEntries` with the number
+/// of entries, if it is more than 65535. `Memory`, also where 32 bits do not count the instructions or
+/// 64 bits the bytes or the entries.
+pub fn lay_out(alloc: Global, blocks: &[Block], old: &MethodCode) -> Result<CodeAttr, LayoutFault>
+    requires { AreLayable blocks.now old.now }
+    ensures laid { IfOk result (IsLaidOut blocks.now old.now) }
+    // Which fault: that of the length comes first.
+    ensures fault { IfErr result (IsLayoutFault blocks.now old.now) }
+    // The rule of widening gives the blocks one length.
+    ensures one { (n m : ℕ) → IsLength blocks.now n → IsLength blocks.now m → n ≡ m }
+    // It is no more than the bytes of the blocks with every branch widened, and three for each switch.
+    ensures short { (n : ℕ) → IsLength blocks.now n → n ≤ most_bytes blocks.now + 3 * switches blocks.now }
+    ensures few { IfOk result (λ code. length code.entries ≡ own_count blocks.now + length old.now.entries) }
+{
+    code_or_fault(alloc, blocks, old)
 }

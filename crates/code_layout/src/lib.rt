@@ -31,3 +31,6 @@ pub use taking::take_apart;
 mod layout_tests;
 #[cfg(test)]
 mod tests;
+
+#[cfg(test)]
+mod again_tests;

@@ -8,7 +8,7 @@ use Rattle.code_layout.specs.Blocks.{IsLine, IsVariable}
 use Rattle.code_layout.specs.Laid.{entries_of, attributes_of}
 use Rattle.code_layout.specs.Spelled.{AreRows, ArePlaces, bytes_of, place_in}
 use Rattle.code_layout.proofs.Layable.{are_rows}
-use Rattle.code_layout.proofs.Whole.{small_places, is_laid_out, code_most, entries_length}
+use Rattle.code_layout.proofs.Whole.{small_places, is_laid_out, entries_length}
 use Rattle.code_layout.proofs.layout.laid.Goals as goal
 
 pub laid_bytes-requires-clause-are : goal.laid_bytes-requires-clause-are
@@ -41,12 +41,6 @@ returns-clause-laid c =
     ∙ ap (λ (l : List LineTable). attributes_of (place_in places) c.args.blocks.now l c.as_slice-variables.result.now) c.as_slice-lines.ensures
     ∙ ap (λ (l : List VariableTable). attributes_of (place_in places) c.args.blocks.now c.args.old.now.lines l) c.as_slice-variables.ensures)
     c.greatest_stack.ensures c.greatest_locals.ensures c.requires.few
-
-pub returns-clause-short : goal.returns-clause-short
-returns-clause-short c =
-    code_most c.args.blocks.now c.args.old.now c.args.all.now c.args.layout.now.wide.items c.args.layout.now.places.items c.requires.rows c.requires.layable c.requires.widened c.requires.places c.requires.fits
-    (record { max_stack = c.greatest_stack.result; max_locals = c.greatest_locals.result; code = c.from_vec.result; entries = c.from_vec-2.result; attributes = c.from_vec-3.result }) c.requires.keys
-    (c.from_vec.ensures ∙ c.in_ok-code.ensures ∙ ap (λ (l : List Bool). bytes_of c.args.all.now l) c.as_slice.ensures.value)
 
 pub returns-clause-few : goal.returns-clause-few
 returns-clause-few c =
