@@ -28,7 +28,8 @@ pub use ready::is_layable;
 pub use taking::take_apart;
 
 #[cfg(test)]
-mod tests;
-
-#[cfg(test)]
 mod again_tests;
+#[cfg(test)]
+mod layout_tests;
+#[cfg(test)]
+mod tests;
