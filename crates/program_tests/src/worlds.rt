@@ -154,11 +154,21 @@ fn missing_supertypes(rt: HostRuntime) -> Result<(), Fail> {
     let alloc = rt.alloc();
     let gone = class(b"q/B", b"p/Gone");
     assert!(rt; refuses(alloc, &[gone], "refused: q.B missing-super p.Gone\n")?);
-    let interfaces: [&[u8]; 3] = [b"java/lang/Runnable", b"p/Y", b"p/X"];
-    let mut both = implementing(b"q/A", &interfaces);
-    assert!(rt; refuses(alloc, &[gone, both], "refused: q.A missing-super p.Y\n")?);
-    both.super_class = b"p/Z";
-    assert!(rt; refuses(alloc, &[gone, both], "refused: q.A missing-super p.Z\n")?);
+    let having = implementing(b"q/A", &[b"java/lang/Runnable", b"p/Y", b"p/X"]);
+    assert!(rt; refuses(alloc, &[gone, having], "refused: q.A missing-super p.Y\n")?);
+    let extending = Declared {
+        flags: 0x21,
+        name: b"q/A",
+        super_class: b"p/Z",
+        interfaces: &[b"p/Y"],
+    };
+    assert!(rt;
+        refuses(
+            alloc,
+            &[gone, extending],
+            "refused: q.A missing-super p.Z\n"
+        )?
+    );
     // U+1F600 in modified UTF-8, and a class that extends a final one.
     let face = class(b"\xED\xA0\xBD\xED\xB8\x80/F", b"\xED\xA0\xBD\xED\xB8\x80");
     let below = class(b"B", b"A");
