@@ -6,12 +6,12 @@ use Rattle.std.specs.Option.{unwrap_or}
 use Rattle.class_file.specs.Pool.{Reference}
 use Rattle.class_machine.specs.declared.kinds.Element.{Element}
 use Rattle.class_machine.specs.declared.kinds.Fault.{Fault}
-use Rattle.class_machine.specs.Values.{Name, class_of, Held, Int, Null, Reference as Pointer, is_held}
+use Rattle.class_machine.specs.Values.{Name, ClassObject, class_of, Held, Int, Null, Reference as Pointer, is_held}
 use Rattle.class_machine.specs.Numbers.{count_int}
 use Rattle.class_machine.specs.Descriptors.{element_of, kind_in, elements_of, held_in, class_in, blank, narrowed}
 use Rattle.class_machine.specs.Classes.{Field, Classes}
 use Rattle.class_machine.specs.World.{Object, Array, World, object_at, set_object, next_name, with_object, find_field, set_field, read_field, write_field, count_in, enter_monitor, leave_monitor}
-use Rattle.class_machine.specs.Effect.{Request, GetStatic, PutStatic, GetField, PutField, MakeArray, ArrayLoad, ArrayStore, ArrayLength, Cast, IsInstance, EnterMonitor, LeaveMonitor}
+use Rattle.class_machine.specs.Effect.{Request, GetStatic, PutStatic, GetField, PutField, MakeArray, ArrayLoad, ArrayStore, ArrayLength, Cast, IsInstance, LoadClass, EnterMonitor, LeaveMonitor}
 
 pub data Reply : Type 0 where
   -- a value for the operands
@@ -171,5 +171,6 @@ answer cs w (ArrayStore e a i v) = unless_null a (λ x. array_store cs w e x i v
 answer cs w (ArrayLength a) = unless_null a (λ x. array_length w x)
 answer cs w (Cast class a) = cast cs w class a
 answer cs w (IsInstance class a) = is_instance cs w class a
+answer cs w (LoadClass class) = Gives (Pointer (ClassObject class)) w
 answer cs w (EnterMonitor a) = unless_null a (λ x. Done (enter_monitor w x))
 answer cs w (LeaveMonitor a) = unless_null a (λ x. left w x (count_in w.monitors x))

@@ -22,10 +22,10 @@ use Rattle.class_machine.specs.declared.kinds.Mode.{Mode}
 use Rattle.class_machine.specs.declared.meaning.Basic.{Basic}
 use Rattle.class_machine.specs.declared.meaning.Meaning.{Meaning}
 use Rattle.class_machine.specs.declared.kinds.Constant.TheVariants as constant
-use Rattle.class_machine.specs.Values.{Literal, ClassObject, Held, Int, Long, Float, Double, Reference as Pointer}
+use Rattle.class_machine.specs.Values.{Literal, Held, Int, Long, Float, Double, Reference as Pointer}
 use Rattle.class_machine.specs.Texts.{units_of}
 use Rattle.class_machine.specs.Meanings.{meaning_of}
-use Rattle.class_machine.specs.Operations.{Operation, Do, Switch, Refer, FieldAccess, Invoke, New, NewReferenceArray, NewArrays, CheckCast, InstanceOf}
+use Rattle.class_machine.specs.Operations.{Operation, Do, Switch, Refer, ReferClass, FieldAccess, Invoke, New, NewReferenceArray, NewArrays, CheckCast, InstanceOf}
 use Rattle.class_machine.specs.Classes.{same_type}
 use Rattle.class_machine.specs.Declarations.{DeclaredField, DeclaredMethod, DeclaredClass}
 use Rattle.class_machine.specs.Turn.{Entry, Handler, Code}
@@ -66,7 +66,7 @@ constant_operation pool (entry.Float bits) = Some (Do (Basic.Constant (constant.
 constant_operation pool (entry.Long n) = Some (Do (Basic.Constant (constant.Long n)))
 constant_operation pool (entry.Double bits) = Some (Do (Basic.Constant (constant.Double bits)))
 constant_operation pool (entry.String text) = option_map (λ bytes. Refer (Literal (units_of bytes))) (text_at pool text)
-constant_operation pool (entry.Class name) = option_map (λ class. Refer (ClassObject class)) (text_at pool name)
+constant_operation pool (entry.Class name) = option_map ReferClass (text_at pool name)
 constant_operation pool _ = None
 
 -- with an index of the constant pool

@@ -24,7 +24,7 @@ use Rattle.class_machine.specs.Values as values
 use Rattle.class_machine.specs.Numbers.{binary, divide, shift, low_signed, low_unsigned, same_int, compare, passes}
 use Rattle.class_machine.specs.Descriptors.{element_kind, kind_in, parameters_in, primitive, array_of}
 use Rattle.class_machine.specs.Classes.{is_constructor}
-use Rattle.class_machine.specs.Operations.{Operation, Do, Switch, Refer, FieldAccess, Invoke, New, NewReferenceArray, NewArrays, CheckCast, InstanceOf}
+use Rattle.class_machine.specs.Operations.{Operation, Do, Switch, Refer, ReferClass, FieldAccess, Invoke, New, NewReferenceArray, NewArrays, CheckCast, InstanceOf}
 
 -- what an instruction asks of the static fields, the heap and the monitors; a reference may be null
 pub data Request : Type 0 where
@@ -39,6 +39,8 @@ pub data Request : Type 0 where
   ArrayLength : (a : Option Name) → Request
   Cast : (class : List ℕ) (a : Option Name) → Request
   IsInstance : (class : List ℕ) (a : Option Name) → Request
+  -- the object that stands for the class
+  LoadClass : (class : List ℕ) → Request
   EnterMonitor : (a : Option Name) → Request
   LeaveMonitor : (a : Option Name) → Request
 
@@ -402,6 +404,7 @@ module _ {P : Type 0} where
   effect s (Do basic) ops ls = basic_effect s basic ops ls
   effect s (Switch keys) ops ls = switch keys ops ls
   effect s (Refer a) ops ls = constant s.room (values.Reference a) ops ls
+  effect s (ReferClass class) ops ls = room_for s.room Kind.Reference ops (Ask (LoadClass class) (content ops ls))
   effect s (FieldAccess access r) ops ls = access_field s.room access r (kind_in r.member.descriptor) ops ls
   effect s (Invoke mode r) ops ls = invoke mode r ops ls
   effect s (New class) ops ls = announce s.room class ops ls

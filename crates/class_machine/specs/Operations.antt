@@ -11,8 +11,10 @@ pub data Operation : Type 0 where
   Do : (basic : Basic) → Operation
   -- `tableswitch` and `lookupswitch`: the key at place i of the list has target i + 1, and target 0 is the default's
   Switch : (keys : List ℤ) → Operation
-  -- `ldc` of a String or a class
+  -- `ldc` of a String
   Refer : (a : Name) → Operation
+  -- `ldc` of a class or array type
+  ReferClass : (class : List ℕ) → Operation
   FieldAccess : (access : Access) (field : Reference) → Operation
   Invoke : (mode : Mode) (method : Reference) → Operation
   New : (class : List ℕ) → Operation

@@ -12,7 +12,7 @@ use Rattle.class_machine.specs.Events as events
 use Rattle.class_machine.specs.Classes.{dotted, member_text, is_constructor, Field, Method, Classes, is_among, select, select_special, fault_class}
 use Rattle.class_machine.specs.World.{World, make, begin, enter_monitor}
 use Rattle.class_machine.specs.Operations.{Operation}
-use Rattle.class_machine.specs.Effect.{Request, GetStatic, PutStatic, GetField, PutField, MakeArray, Cast, IsInstance, Setting, Effect, On, Jump, Enter, Back, Ask, Announce, CallStatic, CallOn, Build, Leave, Fail, Throw, is_broken, effect}
+use Rattle.class_machine.specs.Effect.{Request, GetStatic, PutStatic, GetField, PutField, MakeArray, Cast, IsInstance, LoadClass, Setting, Effect, On, Jump, Enter, Back, Ask, Announce, CallStatic, CallOn, Build, Leave, Fail, Throw, is_broken, effect}
 use Rattle.class_machine.specs.Effect as effects
 use Rattle.class_machine.specs.Answers.{Reply, Gives, Done, Faults, Refuses, answer}
 use Rattle.class_machine.specs.Rules.{Rule}
@@ -192,6 +192,7 @@ module _ {P : Type 0} (code : Code P) (cs : Classes) where
   asked_link (MakeArray (Some class) type sizes) = known_class class
   asked_link (Cast class (Some a)) = known_class class
   asked_link (IsInstance class (Some a)) = known_class class
+  asked_link (LoadClass class) = known_class class
   asked_link _ = Free
 
   -- what the effect needs of the classes before it is taken

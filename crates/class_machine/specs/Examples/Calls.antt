@@ -8,7 +8,7 @@ use Rattle.class_machine.specs.declared.kinds.Access.{Access}
 use Rattle.class_machine.specs.declared.meaning.Basic.{Basic}
 use Rattle.class_machine.specs.Events as events
 use Rattle.class_machine.specs.Values.{object_class}
-use Rattle.class_machine.specs.Operations.{FieldAccess, New, CheckCast}
+use Rattle.class_machine.specs.Operations.{FieldAccess, New, CheckCast, ReferClass}
 use Rattle.class_machine.specs.Classes.{reference}
 use Rattle.class_machine.specs.Listed.{Listed, ListedMethod, class, class_below, interface, object_field, object_method, abstract_method}
 use Rattle.class_machine.specs.Examples.{plain, basic, to, int, int_return, void_return, null, ends, gives, returns, main_class, main_action, runs, acts, invoke, say, said, action, constructor_below, make, get_static, output_field, print_line}
@@ -75,6 +75,16 @@ null_receiver = refl
 -- null passes a cast to a class that isn't there
 null_cast : runs 4 (main_class (null ∷ plain (CheckCast (codes "Gone")) ∷ to (Basic.IfNull true) 3 ∷ int (pos 1) ∷ int_return ∷ []) [] ∷ []) ≡ record { events = []; ending = None }
 null_cast = refl
+
+-- the class of a constant is searched, and an array type is known where its element class is
+unknown_constant : acts 1 (main_action (plain (ReferClass (codes "Gone")) ∷ void_return ∷ []) [] ∷ []) ≡ ends [] (events.Unresolved (codes "Gone"))
+unknown_constant = refl
+
+unknown_element : acts 1 (main_action (plain (ReferClass (codes "[LGone;")) ∷ void_return ∷ []) [] ∷ []) ≡ ends [] (events.Unresolved (codes "[LGone;"))
+unknown_element = refl
+
+known_constant : acts 2 (main_action (plain (ReferClass (codes "C")) ∷ void_return ∷ []) [] ∷ []) ≡ returns []
+known_constant = refl
 
 -- A constructor that throws has its object all the same: the copy of the token in local 0 is the buffer that `append` then
 -- fills.

@@ -16,7 +16,7 @@ use Rattle.class_machine.specs.Values.{Name, Held, Value, Plain, Token, ReturnAd
 use Rattle.class_machine.specs.Numbers.{divide, binary, shift, compare, same_int, low_signed, low_unsigned}
 use Rattle.class_machine.specs.Descriptors.{kind_in, parameters_in}
 use Rattle.class_machine.specs.Classes.{is_constructor}
-use Rattle.class_machine.specs.Operations.{Operation, Do, Switch, Refer, FieldAccess, Invoke, New, NewReferenceArray, NewArrays, CheckCast, InstanceOf}
+use Rattle.class_machine.specs.Operations.{Operation, Do, Switch, Refer, ReferClass, FieldAccess, Invoke, New, NewReferenceArray, NewArrays, CheckCast, InstanceOf}
 use Rattle.class_machine.specs.Effect
 use Rattle.class_machine.specs.Effect.{Request, Setting, Effect, Broken, held_constant, basic_effect, effect}
 use Rattle.class_machine.specs.Renaming.{renamed, renamed_local, more_locals, grown, grown_effect, Kept, roomier, is_bare}
@@ -434,6 +434,7 @@ module _ {P Q : Type 0} (f : P → Q) (extra : List (Local Q)) where
   effect_kept bare s more (Do b) ops ls = basic_kept s more b ops ls
   effect_kept bare s more (Switch keys) ops ls = pop_int_kept ops _ _ (λ x rest. same)
   effect_kept bare s more (Refer a) ops ls = held_on_kept s.room more (Held.Reference a) ops ls
+  effect_kept bare s more (ReferClass class) ops ls = room_kept s.room more Kind.Reference ops (Effect.Ask (Effect.LoadClass class) (content {P = P} ops ls)) _ same
   effect_kept bare s more (FieldAccess access r') ops ls = access_kept s.room more access r' (kind_in r'.member.descriptor) ops ls
   effect_kept bare s more (Invoke mode r') ops ls = invoke_kept mode r' ops ls
   effect_kept bare s more (New class) ops ls =

@@ -1,0 +1,4 @@
+mod Sound
+mod Agreement
+mod Lookups
+mod Joined

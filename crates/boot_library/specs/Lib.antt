@@ -1,0 +1,4 @@
+pub mod Library
+pub mod Heads
+pub mod Rules
+pub mod Rows

@@ -1,0 +1,14 @@
+pub mod Heads
+pub mod Reserved
+pub mod Marked
+pub mod Graph
+pub mod Hierarchy
+pub mod Searches
+pub mod Numbers
+pub mod Faults
+pub mod Examples
+pub mod OnceLaws
+pub mod WalkLaws
+pub mod PlaceLaws
+pub mod FaultLaws
+pub mod FirstLaws
