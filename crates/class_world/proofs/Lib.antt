@@ -1,0 +1,15 @@
+pub mod Once
+pub mod Filling
+pub mod Reaching
+pub mod Named
+pub mod Firsts
+pub mod Twins
+pub mod Given
+pub mod Rings
+pub mod Built
+pub mod Dotted
+pub mod Positions
+pub mod Upward
+pub mod NameOrder
+pub mod Below
+pub mod Numbered

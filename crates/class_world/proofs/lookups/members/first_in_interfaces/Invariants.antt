@@ -1,0 +1,8 @@
+use Rattle.std.proofs.Common.{◌≡◌, drop}
+use Rattle.std.specs.List.{filter}
+use Rattle.class_heads.specs.Searches.{first_found, method_in, is_interface_at}
+use Rattle.class_world.proofs.lookups.members.first_in_interfaces.Given as goal
+
+-- what is left decides
+abbrev pub invariant-loop-place : goal.invariant-loop-place
+invariant-loop-place l = first_found (method_in l.heads l.member) (filter (is_interface_at l.heads) (drop l.place-index l.places)) ≡ first_found (method_in l.heads l.member) (filter (is_interface_at l.heads) l.places)

@@ -1,0 +1,10 @@
+pub mod Places
+pub mod Filled
+pub mod Above
+pub mod First
+pub mod Names
+pub mod Tables
+pub mod Order
+pub mod Naming
+pub mod Found
+pub mod Types
