@@ -9,5 +9,6 @@ pub mod Standing
 pub mod StandingLaws
 pub mod ChangeLaws
 pub mod NumberLaws
+pub mod HeapLaws
 pub mod States
 pub mod Examples

@@ -3,7 +3,7 @@
 use Rattle.std.specs.Prelude.{◌≡◌, ℕ, zero, suc, ◌+◌, ◌<◌, ◌≤◌, Bool, true, false, ◌&&◌, ◌==◌, ◌⊎◌, List, [], ◌∷◌, ◌++◌, reverse, length, slice_get, Option, Some, None, refl, if◌then◌else◌}
 use Rattle.std.specs.List.{AllByRecursion}
 use Rattle.std.specs.Str.{bytes_eq}
-use Rattle.std.proofs.Common.{sym, ◌∙◌, ap, subst, inl, inr, arith, append-nil, append_assoc}
+use Rattle.std.proofs.Common.{sym, ◌∙◌, ap, subst, inl, inr, arith, append-nil, append_assoc, eq-eqb}
 use Rattle.std.proofs.lemmas.Bool.{cases_Bool, false≢true, ne_eqb}
 use Rattle.std.proofs.lemmas.List.{reverse-append}
 use Rattle.std.proofs.lemmas.Option.{none-some}
@@ -18,17 +18,7 @@ use Rattle.machine_values.specs.declared.names.Name.TheVariants.{Made, Literal, 
 use Rattle.machine_values.specs.declared.content.Content.{Content}
 use Rattle.machine_values.specs.Things.{Things, same_maker, is_made_of, made, place_of}
 use Rattle.machine_values.specs.NameLaws.{maker_itself, maker_cases, made-hit, made-grows}
-use Rattle.machine_values.specs.Standing.{maker_name, machine_name, listed, IsHeapOf, IsAlone}
-
--- behind these, the next object of its name
-abbrev pub IsNext : List Name → Name → Type 0
-IsNext before (Made maker k) = k ≡ suc (made before maker)
-IsNext before name = place_of before name ≡ None
-
--- behind those, each of these is the next object of its name
-abbrev pub AreNumbered : List Name → List Name → Type 0
-AreNumbered before [] = Unit {0}
-AreNumbered before (name ∷ names) = IsNext before name × AreNumbered (before ++ name ∷ []) names
+use Rattle.machine_values.specs.Standing.{maker_name, machine_name, listed, IsHeapOf, IsAlone, IsNext, AreNumbered}
 
 pub numbered_push : (before names : List Name) (x : Name) → AreNumbered before names → IsNext (before ++ names) x → AreNumbered before (names ++ x ∷ [])
 numbered_push before [] x h k = (subst (λ l. IsNext l x) (append-nil before) k, tt)
@@ -146,3 +136,8 @@ pub made_alike : (heads : List ClassHead) (fields : List ℕ → List Reference)
 made_alike heads fields things heap maker h told =
     ap (λ l. worlds.made l (maker_name heads maker)) h.same ∙ count_reverse (listed heads fields things.names things.names things.contents) (maker_name heads maker)
     ∙ listed_made heads fields things.names things.names things.contents maker h.whole told
+
+-- ---- a name is itself
+
+pub name_itself_there : (heads : List ClassHead) (maker : Maker) (k : ℕ) → machine.same_name (machine_name heads (Made maker k)) (machine_name heads (Made maker k)) ≡ true
+name_itself_there heads maker k = ap (λ b. b && bytes_eq (maker_name heads maker) (maker_name heads maker)) (eq-eqb k k refl) ∙ (bytes_decides (maker_name heads maker) (maker_name heads maker)).1 refl

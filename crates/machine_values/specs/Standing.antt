@@ -17,7 +17,7 @@ use Rattle.machine_values.specs.declared.names.Name.{Name}
 use Rattle.machine_values.specs.declared.names.Name.TheVariants.{Made, Literal, ClassObject}
 use Rattle.machine_values.specs.declared.content.Content.{Content}
 use Rattle.machine_values.specs.declared.content.Content.TheVariants.{Values, Text, Fixed}
-use Rattle.machine_values.specs.Things.{Things}
+use Rattle.machine_values.specs.Things.{Things, made, place_of}
 use Rattle.machine_values.specs.Types.{type_name}
 
 module _ (heads : List ClassHead) where
@@ -96,3 +96,20 @@ abbrev pub IsAlone : List ClassHead → List Name → ℕ → machine.Name → T
 IsAlone heads [] at a = Unit {0}
 IsAlone heads (name ∷ others) zero a = AllByRecursion (λ other. machine.same_name (machine_name heads other) a ≡ false) others
 IsAlone heads (name ∷ others) (suc at) a = (machine.same_name (machine_name heads name) a ≡ false) × IsAlone heads others at a
+
+-- ---- numbers
+
+-- behind these, the next object of its name
+abbrev pub IsNext : List Name → Name → Type 0
+IsNext before (Made maker k) = k ≡ suc (made before maker)
+IsNext before name = place_of before name ≡ None
+
+-- behind those, each of these is the next object of its name
+abbrev pub AreNumbered : List Name → List Name → Type 0
+AreNumbered before [] = Unit {0}
+AreNumbered before (name ∷ names) = IsNext before name × AreNumbered (before ++ name ∷ []) names
+
+-- a heap whose objects are numbered, and the class machine's that it stands for
+pub record Stands (heads : List ClassHead) (fields : List ℕ → List Reference) (things : Things) (heap : List (machine.Name × worlds.Object)) : Type 0 where
+  pub objects : IsHeapOf heads fields things heap
+  pub numbered : AreNumbered [] things.names

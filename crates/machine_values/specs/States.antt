@@ -29,7 +29,7 @@ use Rattle.machine_values.specs.declared.state.Due.{Due}
 use Rattle.machine_values.specs.declared.state.Due.TheVariants as due
 use Rattle.machine_values.specs.declared.state.MachineState.{MachineState}
 use Rattle.machine_values.specs.Observed.{machine_ending}
-use Rattle.machine_values.specs.Standing.{name_of, name_in, held, Settled, IsHeapOf}
+use Rattle.machine_values.specs.Standing.{name_of, name_in, held, Settled, Stands}
 
 module _ (heads : List ClassHead) (methods : ℕ → Reference) (names : List Name) where
   abbrev pub object_name : Ref → machine.Name
@@ -129,7 +129,7 @@ IsStaticWithin count (Some v) = Settled count v
 
 -- The static fields have their references by their numbers, as the methods have theirs.
 pub record Represents (heads : List ClassHead) (fields : List ℕ → List Reference) (methods field_names : ℕ → Reference) (s : MachineState) (t : State Place) : Type 0 where
-  pub heap : IsHeapOf heads fields s.heap t.world.heap
+  pub heap : Stands heads fields s.heap t.world.heap
   pub statics : (n : ℕ) → n < length s.statics → find_field t.world.statics (field_names n) ≡ option_map (held heads s.heap.names) (slice_index_or s.statics n None)
   pub begun : (n : ℕ) → n < length heads → is_among t.world.begun (name_at heads n) ≡ slice_index_or s.begun n false
   pub monitors : (n : ℕ) → n < length s.heap.names → count_in t.world.monitors (name_in heads (slice_get s.heap.names n)) ≡ slice_index s.monitors n
