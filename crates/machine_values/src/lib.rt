@@ -14,8 +14,6 @@ mod observed;
 mod operands;
 mod script;
 mod state;
-#[cfg(test)]
-mod tests;
 mod units;
 mod values;
 
