@@ -1,0 +1,14 @@
+pub mod First
+pub mod Things
+pub mod Tables
+pub mod NameLaws
+pub mod Stacks
+pub mod Types
+pub mod Observed
+pub mod Standing
+pub mod StandingLaws
+pub mod ChangeLaws
+pub mod NumberLaws
+pub mod HeapLaws
+pub mod States
+pub mod Examples

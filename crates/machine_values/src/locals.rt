@@ -1,0 +1,51 @@
+//! The locals of a frame.
+
+ghost use Rattle.std.specs.Prelude.{◌≡◌, ◌<◌, length, replicate, slice_get, slice_set, IfOk};
+ghost use Rattle.std.specs.Option.{option_copied};
+ghost use Rattle.machine_values.specs.declared.values.Local.TheVariants.{Unset};
+
+use crate::values::Local;
+use smallvec::SmallVec;
+use std::alloc::{AllocError, Global};
+use std::marker::Model;
+
+/// The locals of a frame, whose number stays (JVMS 3.6.1).
+#[derive(Drop)]
+pub struct Locals {
+    items: SmallVec<Local, 8>,
+}
+
+impl Model for Locals {
+    ghost use Rattle.std.specs.Prelude.{List};
+    ghost use Rattle.machine_values.specs.declared.values.Local.{Local as Kept};
+
+    ghost Value = { List Kept };
+
+    ghost view = { λ l. l.items.items };
+}
+
+impl Locals {
+    /// So many locals, to which nothing was stored.
+    pub fn new(alloc: Global, count: u16) -> Result<Locals, AllocError>
+        ensures { IfOk result (λ locals. locals ≡ replicate count Unset) }
+    {
+        let unset = vec![in alloc; Local::Unset; count as usize]?;
+        let items = SmallVec::from_slice(alloc, unset.as_slice())?;
+        Ok(Locals { items })
+    }
+
+    /// The locals, in their order.
+    pub fn as_slice(&self) -> &[Local]
+        ensures { result.now ≡ self.now }
+    {
+        self.items.as_slice()
+    }
+
+    /// Gives a local another content.
+    pub fn set(&mut self, index: u16, local: Local)
+        requires { index < length self.old }
+        ensures { self.new ≡ slice_set self.old index local }
+    {
+        self.items.as_mut_slice()[index as usize] = local;
+    }
+}
