@@ -15,7 +15,7 @@ use Rattle.class_machine.specs.Operations.{Operation}
 use Rattle.class_machine.specs.Effect.{Request, GetStatic, PutStatic, GetField, PutField, MakeArray, Cast, IsInstance, LoadClass, Setting, Effect, On, Jump, Enter, Back, Ask, Announce, CallStatic, CallOn, Build, Leave, Fail, Throw, is_broken, effect}
 use Rattle.class_machine.specs.Effect as effects
 use Rattle.class_machine.specs.Answers.{Reply, Gives, Done, Faults, Refuses, answer}
-use Rattle.class_machine.specs.Rules.{Rule}
+use Rattle.boot_library.specs.declared.rule.LibraryRule.{LibraryRule}
 use Rattle.class_machine.specs.LibraryCalls.{Wait, Work, Results, Throws, Calls, Loads, Exits, Misuses, by_rule, by_static_rule}
 use Rattle.class_machine.specs.LibraryCalls as work
 use Rattle.class_machine.specs.Natives.{Response, Returns, Lacks, respond, native_event}
@@ -292,11 +292,11 @@ module _ {P : Type 0} (code : Code P) (cs : Classes) where
   worked f c w super (Exits status) = stops (Exit status)
   worked f c w super Misuses = stops events.Broken
 
-  abbrev pub ruled : World → Rule → Option Name → List Held → Work
+  abbrev pub ruled : World → LibraryRule → Option Name → List Held → Work
   ruled w rule None given = by_static_rule cs w rule given
   ruled w rule (Some a) given = by_rule cs w rule a given
 
-  abbrev pub by_body : Purpose → Frame P → Content P → World → Reference → Method → Option Name → List Held → Option Rule → Turn P
+  abbrev pub by_body : Purpose → Frame P → Content P → World → Reference → Method → Option Name → List Held → Option LibraryRule → Turn P
   by_body purpose f c w r m receiver given (Some rule) = worked f c w (is_this_or_super purpose) (ruled w rule receiver given)
   by_body purpose f c w r m receiver given None = enters purpose c w r m receiver (with_receiver receiver given) (code.method m.name)
 

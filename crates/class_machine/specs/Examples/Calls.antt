@@ -10,16 +10,13 @@ use Rattle.class_machine.specs.Events as events
 use Rattle.class_machine.specs.Values.{object_class}
 use Rattle.class_machine.specs.Operations.{FieldAccess, New, CheckCast, ReferClass}
 use Rattle.class_machine.specs.Classes.{reference}
-use Rattle.class_machine.specs.Listed.{Listed, ListedMethod, class, class_below, interface, object_field, object_method, abstract_method}
-use Rattle.class_machine.specs.Examples.{plain, basic, to, int, int_return, void_return, null, ends, gives, returns, main_class, main_action, runs, acts, invoke, say, said, action, constructor_below, make, get_static, output_field, print_line}
+use Rattle.class_machine.specs.Listed.{Listed, ListedMethod, locked, class, class_below, interface, object_field, object_method, abstract_method}
+use Rattle.class_machine.specs.Declarations.{output_field}
+use Rattle.class_machine.specs.Examples.{plain, basic, to, int, int_return, void_return, null, ends, gives, returns, main_class, main_action, runs, acts, invoke, say, said, action, constructor_below, make, get_static, print_line}
 
 -- a method that says a word
 abbrev pub speaks : List ℕ → ListedMethod
 speaks word = object_method (codes "speak") (codes "()V") (say word ++ void_return ∷ []) []
-
--- the same method, synchronized
-abbrev pub locked : ListedMethod → ListedMethod
-locked m = record m { declared = record (m.declared) { is_synchronized = true } }
 
 -- the interface's method is selected from the class of the object upward: B's own, and A's for A
 selects : acts 40 (

@@ -15,7 +15,6 @@ use Rattle.class_file.specs.declared.types.CodeAttr.{CodeAttr}
 use Rattle.class_machine.specs.Events.{Event, Ending}
 use Rattle.class_machine.specs.Events as events
 use Rattle.class_machine.specs.Classes.{Method}
-use Rattle.class_machine.specs.Searches.{searched}
 use Rattle.class_machine.specs.Run.{declared_method, class_observation}
 use Rattle.class_machine.specs.Listed.{missing, member}
 use Rattle.class_machine.specs.Examples.{said}
@@ -56,11 +55,11 @@ file = record {
 }
 
 abbrev pub main : Method
-main = unwrap_or (declared_method searched (file ∷ []) (member (codes "main") (codes "()V")) (codes "C")) (missing (codes "C") (member (codes "main") (codes "()V")))
+main = unwrap_or (declared_method (file ∷ []) (member (codes "main") (codes "()V")) (codes "C")) (missing (codes "C") (member (codes "main") (codes "()V")))
 
 -- what is observed within n steps
 abbrev pub runs : ℕ → Observation Event Ending
-runs = class_observation searched (file ∷ []) [] main []
+runs = class_observation (file ∷ []) [] main []
 
 six_steps : runs 6 ≡ record { events = said (codes "m") ∷ []; ending = Some (events.Returned None) }
 unfolding decoded opcode

@@ -9,7 +9,8 @@ use Rattle.class_machine.specs.Events as events
 use Rattle.class_machine.specs.Values.{object_class, class_class, string_class}
 use Rattle.class_machine.specs.Classes.{reference}
 use Rattle.class_machine.specs.Listed.{ListedMethod, ListedClass, class, class_below, object_method}
-use Rattle.class_machine.specs.Examples.{basic, int, long, text, int_return, void_return, ends, gives, returns, main_class, main_action, runs, acts, invoke, get_static, output_field, print_line, say, said, constructor_below, initialiser, make}
+use Rattle.class_machine.specs.Declarations.{output_field}
+use Rattle.class_machine.specs.Examples.{basic, int, long, text, int_return, void_return, ends, gives, returns, main_class, main_action, runs, acts, invoke, get_static, print_line, say, said, constructor_below, initialiser, make}
 
 abbrev pub buffer : List ℕ
 buffer = codes "java/lang/StringBuffer"
