@@ -4,9 +4,10 @@
 use Rattle.std.specs.Prelude.{ℕ, ◌&&◌, ◌||◌, Bool, true, false, not, if◌then◌else◌, List, [], ◌∷◌, ◌++◌, map, replicate, is_some, nat_le, ◌-◌, Option, Some, None}
 use Rattle.std.specs.Option.{option_map}
 use Rattle.class_file.specs.Pool.{Reference}
+use Rattle.class_heads.specs.Hierarchy.{is_array}
 use Rattle.class_machine.specs.declared.kinds.Fault.{Fault}
 use Rattle.class_machine.specs.Values.{Name, ClassObject, class_of, throwable_class, Held, Reference as Pointer, arguments_width, Plain, ReturnAddress, Local, Unset, Content, content, pushed_on, has_room, kind_width, argument_locals, filled_in, filled_local}
-use Rattle.class_machine.specs.Descriptors.{kind_in, is_array, result_in}
+use Rattle.class_machine.specs.Descriptors.{kind_in, result_in}
 use Rattle.class_machine.specs.Events.{Event, Ending, Exit, Unresolved, Unmodelled, ScriptEnds}
 use Rattle.class_machine.specs.Events as events
 use Rattle.class_machine.specs.Classes.{dotted, member_text, is_constructor, Field, Method, Classes, is_among, select, select_special, fault_class}

@@ -6,8 +6,9 @@ use Rattle.std.specs.Str.{bytes_eq}
 use Rattle.class_file.specs.Pool.{Reference}
 use Rattle.boot_library.specs.declared.rule.Primitive.{Primitive}
 use Rattle.boot_library.specs.declared.rule.Primitive.TheVariants as boxed
+use Rattle.class_heads.specs.Hierarchy.{is_array}
 use Rattle.class_machine.specs.Values.{Name, Made, Literal, ClassObject, class_of, same_name, string_class, throwable_class, Held, Int, Long, Float, Double, Null, Reference as Pointer}
-use Rattle.class_machine.specs.Descriptors.{element, primitive, blank, element_of, is_array}
+use Rattle.class_machine.specs.Descriptors.{element, primitive, blank, element_of}
 use Rattle.class_machine.specs.Classes.{reference, same_member, Classes, marked}
 use Rattle.class_machine.specs.Events.{Answer, Shown}
 use Rattle.class_machine.specs.Events as events

@@ -1,6 +1,6 @@
 -- A class file that runs: the class
 --     class C { static void m() { System.out.println("m"); }  static void main() { m(); } }
-use Rattle.std.specs.Prelude.{◌≡◌, ℕ, List, [], ◌∷◌, map, codes, Some, None}
+use Rattle.std.specs.Prelude.{◌≡◌, ℕ, List, [], ◌∷◌, codes, Some, None}
 use Rattle.std.specs.Option.{unwrap_or}
 use Rattle.std.proofs.Common.{refl}
 use Rattle.event_machine.specs.Observation.{Observation}

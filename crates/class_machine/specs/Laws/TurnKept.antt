@@ -5,9 +5,10 @@ use Rattle.std.specs.Option.{option_map}
 use Rattle.std.proofs.lemmas.Bool.Decides.{nat_tests}
 use Rattle.std.proofs.lemmas.List.{map-append}
 use Rattle.class_file.specs.Pool.{Reference}
+use Rattle.class_heads.specs.Hierarchy.{is_array}
 use Rattle.class_machine.specs.declared.kinds.Fault.{Fault}
 use Rattle.class_machine.specs.Values.{Name, ClassObject, class_of, throwable_class, Held, Reference as Pointer, Plain, ReturnAddress, Unset, Holds, Second, Content, pushed_on, is_wide_held, argument_locals, arguments_width}
-use Rattle.class_machine.specs.Descriptors.{kind_in, is_array, result_in}
+use Rattle.class_machine.specs.Descriptors.{kind_in, result_in}
 use Rattle.class_machine.specs.Events.{Event, Ending, Returned, Uncaught, InitFailed, Exit, Unmodelled, Unresolved, ScriptEnds}
 use Rattle.class_machine.specs.Events as events
 use Rattle.class_machine.specs.Classes.{dotted, member_text, Method, Classes, is_among}
