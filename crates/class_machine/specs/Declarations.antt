@@ -1,16 +1,17 @@
 -- The classes of a run: the given ones and behind them the library's, by their heads, and what the machine asks of them
 -- (JVMS 2.8, 2.9, 2.10, 5.4.3). Heads don't say what a field with a ConstantValue holds: that is a parameter.
-use Rattle.std.specs.Prelude.{ℕ, ◌==◌, ◌&&◌, ◌||◌, Bool, true, false, not, if◌then◌else◌, List, [], ◌∷◌, ◌++◌, map, codes, nat_eq, nat_le, nat_lt, length, slice_get, Option, Some, None, is_some, option_and_then}
-use Rattle.std.specs.List.{find, filter, flat_map, prefix_len}
+use Rattle.std.specs.Prelude.{ℕ, ◌&&◌, ◌||◌, Bool, true, not, if◌then◌else◌, List, [], ◌∷◌, ◌++◌, map, codes, nat_lt, slice_get, Option, Some, None, option_and_then}
+use Rattle.std.specs.List.{filter, flat_map}
 use Rattle.std.specs.Option.{option_map, unwrap_or}
 use Rattle.std.specs.Str.{bytes_eq}
 use Rattle.aj_names.specs.declared.types.MemberName.{MemberName}
 use Rattle.class_file.specs.Pool.{NamedType, Reference}
+use Rattle.class_file.specs.Text.{is_field_descriptor}
 use Rattle.class_heads.specs.declared.types.FieldHead.{FieldHead}
 use Rattle.class_heads.specs.declared.types.MethodHead.{MethodHead}
 use Rattle.class_heads.specs.declared.types.ClassHead.{ClassHead}
 use Rattle.class_heads.specs.Heads.{has_flag}
-use Rattle.class_heads.specs.Hierarchy.{object_name, is_interface, is_array, before_semicolon, type_named, place_of, class_named, superclasses, is_subtype, name_at, is_known, class_of_members}
+use Rattle.class_heads.specs.Hierarchy.{object_name, is_interface, is_array, type_named, place_of, class_named, superclasses, is_subtype, name_at, is_known, class_of_members}
 use Rattle.class_heads.specs.Faults.{is_class_that}
 use Rattle.class_heads.specs.Searches.{MemberPlace, in_class, is_private, is_static, method_in, first_found, find_field, find_method, selectable_in}
 use Rattle.boot_library.specs.declared.rule.Primitive.{Primitive}
@@ -85,26 +86,11 @@ output_field = reference system_class (codes "out") (codes "Ljava/io/PrintStream
 abbrev pub library_constant : Reference → Option Held
 library_constant r = if same_member r output_field then Some (Pointer output) else None
 
--- ---- array types
-
-abbrev pub is_base_letter : ℕ → Bool
-is_base_letter b = is_some (find (nat_eq b) (codes "ZBCSIJFD"))
-
-abbrev pub dimensions : List ℕ → ℕ
-dimensions type = prefix_len (nat_eq 91) type
-
--- the bytes are one descriptor and no more
-abbrev pub is_descriptor : List ℕ → Bool
-is_descriptor [] = false
-is_descriptor (b ∷ bytes) =
-    if b == 91 then is_descriptor bytes
-    else (if b == 76 then bytes_eq bytes (before_semicolon bytes ++ 59 ∷ []) else (is_base_letter b && nat_eq (length bytes) 0))
-
--- an array type has at most 255 dimensions (JVMS 4.4.1)
-abbrev pub is_type_name : List ℕ → Bool
-is_type_name class = if is_array class then is_descriptor class && nat_le (dimensions class) 255 else true
-
 -- ---- all that the machine asks
+
+-- an array type is named by its descriptor (JVMS 4.4.1)
+abbrev pub is_type_name : List ℕ → Bool
+is_type_name class = if is_array class then is_field_descriptor class else true
 
 -- the given classes, and behind them the library's
 abbrev pub run_heads : List ClassHead → List ClassHead
