@@ -154,6 +154,10 @@ native_method name descriptor = record { declared = declared 0x0108 name descrip
 abbrev pub locked : ListedMethod → ListedMethod
 locked m = record m { declared = record (m.declared) { flags = flags 0x0020 } }
 
+-- the same method, private (0x0002)
+abbrev pub hidden : ListedMethod → ListedMethod
+hidden m = record m { declared = record (m.declared) { flags = flags 0x0002 } }
+
 abbrev pub field_with : ℕ → List ℕ → List ℕ → FieldHead
 field_with bits name descriptor = record { name = record { name = name; descriptor = descriptor }; flags = flags bits; is_synthetic = false; has_constant = false }
 
