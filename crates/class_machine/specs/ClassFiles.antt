@@ -1,5 +1,5 @@
--- The code and the declarations of class files (JVMS 4 and 6). A place is a byte of a method's code.
-use Rattle.std.specs.Prelude.{ℕ, ◌+◌, ◌&&◌, Bool, false, if◌then◌else◌, bit_and, nat_le, nat_lt, ◌==◌, List, [], ◌∷◌, map, slice_get, Option, Some, None, Ok, Err, option_and_then, ℤ, pos, negsuc, ◌+ℤ◌}
+-- The code of class files, and the constants of their fields (JVMS 4 and 6). A place is a byte of a method's code.
+use Rattle.std.specs.Prelude.{ℕ, ◌+◌, ◌&&◌, Bool, false, if◌then◌else◌, nat_le, nat_lt, ◌==◌, List, [], ◌∷◌, map, slice_get, Option, Some, None, Ok, Err, option_and_then, ℤ, pos, negsuc, ◌+ℤ◌}
 use Rattle.std.specs.List.{filter, find, filter_map}
 use Rattle.std.specs.Option.{option_map, unwrap_or}
 use Rattle.std.specs.Str.{bytes_eq}
@@ -15,7 +15,7 @@ use Rattle.class_file.specs.declared.types.Content.{Content}
 use Rattle.class_file.specs.declared.types.Content.TheVariants as attribute
 use Rattle.class_file.specs.declared.types.CodeAttr.{CodeAttr}
 use Rattle.class_file.specs.declared.types.ExceptionEntry.{ExceptionEntry}
-use Rattle.class_file.specs.Pool.{NamedType, Reference, text_at, class_at, field_at, method_at, entry_at, referred, this_name, super_name, member_type}
+use Rattle.class_file.specs.Pool.{NamedType, Reference, text_at, class_at, field_at, method_at, entry_at, referred, this_name, member_type}
 use Rattle.class_file.specs.Code.{numbered, offsets}
 use Rattle.class_machine.specs.declared.kinds.Element.{Element}
 use Rattle.class_machine.specs.declared.kinds.Mode.{Mode}
@@ -27,7 +27,6 @@ use Rattle.class_machine.specs.Texts.{units_of}
 use Rattle.class_machine.specs.Meanings.{meaning_of}
 use Rattle.class_machine.specs.Operations.{Operation, Do, Switch, Refer, ReferClass, FieldAccess, Invoke, New, NewReferenceArray, NewArrays, CheckCast, InstanceOf}
 use Rattle.class_machine.specs.Classes.{same_type}
-use Rattle.class_machine.specs.Declarations.{DeclaredField, DeclaredMethod, DeclaredClass}
 use Rattle.class_machine.specs.Turn.{Entry, Handler, Code}
 
 -- ---- instructions
@@ -106,9 +105,6 @@ operation pool code (insn.TableSwitch table) = Some (Switch (table_keys code tab
 operation pool code (insn.LookupSwitch table) = Some (Switch (pair_keys code table))
 
 -- ---- methods
-
-abbrev pub has_flag : ℕ → ℕ → Bool
-has_flag flags flag = bit_and flags flag == flag
 
 abbrev pub code_in : Attribute → Option CodeAttr
 code_in a = code_content a.content where
@@ -225,7 +221,7 @@ class_code files = record {
   method = λ r. option_map (entry_of r) (method_code files r);
 }
 
--- ---- declarations
+-- ---- constants of fields
 
 abbrev pub constant_held : List PoolEntry → PoolEntry → Option Held
 constant_held pool (entry.Integer n) = Some (Int n)
@@ -241,25 +237,10 @@ constant_in pool a = constant_content a.content where
   constant_content (attribute.ConstantValue index) = option_and_then (constant_held pool) (entry_at pool index)
   constant_content _ = None
 
-abbrev pub type_of : List PoolEntry → Member → NamedType
-type_of pool m = unwrap_or (member_type pool m) (record { name = []; descriptor = [] })
+-- the ConstantValue of a field (JVMS 4.7.2)
+abbrev pub constant_declared : NamedType → ClassFile → Option Held
+constant_declared type c =
+    option_and_then (λ m. first_of (filter_map (constant_in c.pool) m.attributes)) (find (λ m. is_typed type (member_type c.pool m)) c.fields)
 
-abbrev pub field_of : List PoolEntry → Member → DeclaredField
-field_of pool m =
-    record { member = type_of pool m; is_static = has_flag m.flags.0 0x0008; constant = first_of (filter_map (constant_in pool) m.attributes) }
-
-abbrev pub method_of : List PoolEntry → Member → DeclaredMethod
-method_of pool m =
-    record { member = type_of pool m; is_static = has_flag m.flags.0 0x0008; is_private = has_flag m.flags.0 0x0002; is_synchronized = has_flag m.flags.0 0x0020; is_native = has_flag m.flags.0 0x0100; rule = None }
-
-abbrev pub declared_by : ClassFile → DeclaredClass
-declared_by c = record {
-  name = unwrap_or (this_name c) [];
-  super_class = super_name c;
-  interfaces = filter_map (class_at c.pool) c.interfaces;
-  is_interface = has_flag c.flags.0 0x0200;
-  is_abstract = has_flag c.flags.0 0x0400;
-  is_super = has_flag c.flags.0 0x0020;
-  fields = map (field_of c.pool) c.fields;
-  methods = map (method_of c.pool) c.methods;
-}
+abbrev pub field_constant : List ClassFile → Reference → Option Held
+field_constant files r = option_and_then (constant_declared r.member) (file_named files r.class)

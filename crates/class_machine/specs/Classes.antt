@@ -6,7 +6,7 @@ use Rattle.std.specs.Str.{bytes_eq}
 use Rattle.class_file.specs.Pool.{NamedType, Reference}
 use Rattle.class_machine.specs.declared.kinds.Fault.{Fault}
 use Rattle.class_machine.specs.Values.{Held}
-use Rattle.class_machine.specs.Rules.{Rule}
+use Rattle.boot_library.specs.declared.rule.LibraryRule.{LibraryRule}
 
 -- ---- members by their names
 
@@ -46,7 +46,7 @@ pub record Method : Type 0 where
   pub is_synchronized : Bool
   pub is_native : Bool
   -- of a method of the library that isn't native
-  pub rule : Option Rule
+  pub rule : Option LibraryRule
 
 pub record Classes : Type 0 where
   -- the class is there; an array type is there where its elements are primitive or their class is there

@@ -1,6 +1,9 @@
 -- The types that descriptors name (JVMS 4.3.2, 4.3.3), each by its own descriptor.
 use Rattle.std.specs.Prelude.{ℕ, ◌==◌, ◌%◌, Bool, true, false, not, if◌then◌else◌, List, [], ◌∷◌, ◌++◌, drop, Option, Some, None, ℤ, pos}
 use Rattle.std.specs.Int.{w8, w16, w32, cast_unsigned}
+use Rattle.boot_library.specs.declared.rule.Primitive.{Primitive}
+use Rattle.boot_library.specs.declared.rule.Primitive.TheVariants as boxed
+use Rattle.class_heads.specs.Hierarchy.{is_array, before_semicolon}
 use Rattle.class_machine.specs.declared.kinds.Kind.{Kind}
 use Rattle.class_machine.specs.declared.kinds.Element.{Element}
 use Rattle.class_machine.specs.Values.{Held, Int, Long, Float, Double, Null}
@@ -15,6 +18,17 @@ element_of (b ∷ bytes) =
     if b == 90 then Element.Boolean else (if b == 66 then Element.Byte else (if b == 67 then Element.Char else (if b == 83 then Element.Short
     else (if b == 73 then Element.Int else (if b == 74 then Element.Long else (if b == 70 then Element.Float else (if b == 68 then Element.Double
     else Element.Reference)))))))
+
+-- a primitive type
+abbrev pub element : Primitive → Element
+element boxed.Boolean = Element.Boolean
+element boxed.Byte = Element.Byte
+element boxed.Char = Element.Char
+element boxed.Short = Element.Short
+element boxed.Int = Element.Int
+element boxed.Long = Element.Long
+element boxed.Float = Element.Float
+element boxed.Double = Element.Double
 
 -- the descriptor of a primitive type
 abbrev pub primitive : Element → List ℕ
@@ -61,10 +75,6 @@ narrowed e h = h
 
 -- ---- classes
 
-abbrev pub is_array : List ℕ → Bool
-is_array [] = false
-is_array (b ∷ bytes) = b == 91
-
 -- the descriptor of a class or array type that is named as Class entries name it
 abbrev pub descriptor_of : List ℕ → List ℕ
 descriptor_of class = if is_array class then class else 76 ∷ class ++ 59 ∷ []
@@ -72,11 +82,6 @@ descriptor_of class = if is_array class then class else 76 ∷ class ++ 59 ∷ [
 -- the type of arrays of this class or array type
 abbrev pub array_of : List ℕ → List ℕ
 array_of class = 91 ∷ descriptor_of class
-
--- the bytes up to a ;
-abbrev pub before_semicolon : List ℕ → List ℕ
-before_semicolon [] = []
-before_semicolon (b ∷ bytes) = if b == 59 then [] else b ∷ before_semicolon bytes
 
 -- the class or array type of a descriptor, and none where it is primitive
 abbrev pub class_in : List ℕ → Option (List ℕ)

@@ -21,7 +21,7 @@ use Rattle.class_machine.specs.Events.{Event, Ending}
 use Rattle.class_machine.specs.Events as events
 use Rattle.class_machine.specs.Classes.{reference}
 use Rattle.class_machine.specs.Values.{Literal, print_stream_class}
-use Rattle.class_machine.specs.Library.{system_class}
+use Rattle.class_machine.specs.Declarations.{output_field}
 use Rattle.class_machine.specs.Operations.{Operation, Do, Refer, FieldAccess, Invoke, New}
 use Rattle.class_machine.specs.Listed.{Listed, Row, ListedMethod, ListedClass, class, static_method, object_method, runs_with}
 
@@ -92,9 +92,6 @@ text units = plain (Refer (Literal units))
 
 abbrev pub null : Listed
 null = basic (Basic.Constant constant.Null)
-
-abbrev pub output_field : Reference
-output_field = reference system_class (codes "out") (codes "Ljava/io/PrintStream;")
 
 abbrev pub print_line : List ℕ → Listed
 print_line descriptor = invoke Mode.Virtual (reference print_stream_class (codes "println") descriptor)

@@ -9,9 +9,11 @@
 --     widened_kept         a test that became the opposite test over a jump
 --     turn_same            turn_kept where the classes and the world are the same: nothing else is asked
 --     step_kept, moved_equivalent      the whole machine over code that is laid out at other places
+--     selects_over_heads   the method that a call runs is the one that is selected over the heads of the classes
 pub mod EffectKept
 pub mod TurnKept
 pub mod WaitingKept
 pub mod Widened
 pub mod SameWorld
 pub mod Moved
+pub mod Selection

@@ -3,14 +3,12 @@ pub mod Numbers
 pub mod Descriptors
 pub mod Meanings
 pub mod Events
-pub mod Rules
 pub mod Classes
 pub mod World
 pub mod Operations
 pub mod Effect
 pub mod Answers
 pub mod Texts
-pub mod Library
 pub mod LibraryCalls
 pub mod Natives
 pub mod Turn
@@ -19,7 +17,6 @@ pub mod Start
 pub mod Declarations
 pub mod ClassFiles
 pub mod Run
-pub mod Searches
 pub mod Listed
 pub mod Examples
 pub mod Renaming

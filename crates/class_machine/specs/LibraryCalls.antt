@@ -6,16 +6,20 @@ use Rattle.std.specs.Option.{unwrap_or}
 use Rattle.std.specs.Str.{bytes_eq}
 use Rattle.std.specs.Int.{w32, w64, cast_unsigned}
 use Rattle.class_file.specs.Pool.{NamedType}
+use Rattle.boot_library.specs.declared.rule.Primitive.{Primitive}
+use Rattle.boot_library.specs.declared.rule.Primitive.TheVariants as boxed
+use Rattle.boot_library.specs.declared.rule.Spelling.{Spelling}
+use Rattle.boot_library.specs.declared.rule.Spelling.TheVariants.{OfText, OfObject, OfInt, OfLong, OfChar, OfBoolean}
+use Rattle.boot_library.specs.declared.rule.LibraryRule.{LibraryRule}
+use Rattle.boot_library.specs.declared.rule.LibraryRule.TheVariants as rule
 use Rattle.class_machine.specs.declared.kinds.Element.{Element}
 use Rattle.class_machine.specs.declared.kinds.Fault.{Fault}
 use Rattle.class_machine.specs.Values.{Name, ClassObject, class_of, number_of, same_name, string_class, throwable_class, Held, Int, Long, Float, Double, Null, Reference as Pointer, held_reference}
 use Rattle.class_machine.specs.Numbers.{count_int, same_int, decimal, hexadecimal}
-use Rattle.class_machine.specs.Descriptors.{low_bits, narrowed}
+use Rattle.class_machine.specs.Descriptors.{element, low_bits, narrowed}
 use Rattle.class_machine.specs.Texts.{class_text, class_of_text, is_unfit}
 use Rattle.class_machine.specs.Events.{Event}
 use Rattle.class_machine.specs.Events as events
-use Rattle.class_machine.specs.Rules.{Rule, Spelling, OfText, OfObject, OfInt, OfLong, OfChar, OfBoolean}
-use Rattle.class_machine.specs.Rules as rule
 use Rattle.class_machine.specs.Classes.{Method, Classes}
 use Rattle.class_machine.specs.World.{Text, World, set_object, add_text, make, message_field, cause_field, value_field, box_class, read_field, write_field, units_at}
 use Rattle.class_machine.specs.Answers.{truth}
@@ -129,22 +133,22 @@ boolean_text n = if same_int n (pos 0) then codes "false" else codes "true"
 abbrev pub low_unit : ℤ → ℕ
 low_unit n = cast_unsigned w32 n % 2 ^ 16
 
-abbrev pub box_text : Element → Held → List ℕ
-box_text Element.Char (Int n) = low_unit n ∷ []
-box_text Element.Boolean (Int n) = boolean_text n
+abbrev pub box_text : Primitive → Held → List ℕ
+box_text boxed.Char (Int n) = low_unit n ∷ []
+box_text boxed.Boolean (Int n) = boolean_text n
 box_text type (Int n) = decimal n
 box_text type (Long n) = decimal n
 box_text type _ = []
 
 -- the text that a toString of the library makes of an object
-abbrev pub made_text : World → Rule → Name → Option (List ℕ)
+abbrev pub made_text : World → LibraryRule → Name → Option (List ℕ)
 made_text w rule.Describe a = Some (class_text (class_of a) ++ 64 ∷ hexadecimal (number_of a))
 made_text w rule.Copy a = units_at w a
 made_text w (rule.DescribeBox type) a = Some (box_text type (read_field w a (value_field type)))
 made_text w _ a = None
 
 -- getMessage() of an exception that is being described
-abbrev pub message_by : World → Name → Wait → Option Rule → Method → Work
+abbrev pub message_by : World → Name → Wait → Option LibraryRule → Method → Work
 message_by w x rest (Some rule.Message) m = resume (Describes x rest) (read_field w x message_field) w
 message_by w x rest (Some _) m = Misuses
 message_by w x rest None m = Calls m x (Describes x rest) w
@@ -163,7 +167,7 @@ finish_made wait w (Some units) = go_on (add_text w units) where
   go_on made = finish_text wait (Some made.0) (Some units) made.1
 
 -- toString() of an object within a call
-abbrev pub text_by : Classes → World → Name → Wait → Option Rule → Method → Work
+abbrev pub text_by : Classes → World → Name → Wait → Option LibraryRule → Method → Work
 text_by cs w a wait (Some rule.Itself) m = finish_text wait (Some a) (units_at w a) w
 text_by cs w a wait (Some rule.DescribeThrowable) m = ask_message cs w a wait
 text_by cs w a wait (Some r) m = finish_made wait w (made_text w r a)
@@ -243,8 +247,8 @@ truth_hash n = if same_int n (pos 0) then pos 1237 else pos 1231
 abbrev pub long_hash : ℕ → ℤ
 long_hash bits = count_int (bit_xor bits (bits / 2 ^ 32))
 
-abbrev pub box_hash : Element → Held → Held
-box_hash Element.Boolean (Int n) = Int (truth_hash n)
+abbrev pub box_hash : Primitive → Held → Held
+box_hash boxed.Boolean (Int n) = Int (truth_hash n)
 box_hash type (Long n) = Int (long_hash (cast_unsigned w64 n))
 box_hash type v = v
 
@@ -256,12 +260,12 @@ same_value (Double b) (Double c) = b == c
 same_value _ _ = false
 
 -- the same class and value
-abbrev pub same_box : World → Element → Name → Held → Bool
+abbrev pub same_box : World → Primitive → Name → Held → Bool
 same_box w type a (Pointer b) = bytes_eq (class_of b) (box_class type) && same_value (read_field w a (value_field type)) (read_field w b (value_field type))
 same_box w type a _ = false
 
-abbrev pub box_of : World → Element → Held → Name × World → Work
-box_of w type v made = gives (Pointer made.0) (write_field made.1 made.0 (value_field type) (narrowed type v))
+abbrev pub box_of : World → Primitive → Held → Name × World → Work
+box_of w type v made = gives (Pointer made.0) (write_field made.1 made.0 (value_field type) (narrowed (element type) v))
 
 -- ---- exceptions
 
@@ -273,7 +277,7 @@ set_cause cs w x text _ = Misuses
 -- ---- all rules
 
 -- of a method of an object, without further arguments
-abbrev pub on_object : Classes → World → Rule → Name → Work
+abbrev pub on_object : Classes → World → LibraryRule → Name → Work
 on_object cs w rule.DoNothing a = does w
 on_object cs w rule.IdentityHash a = gives (identity_hash a) w
 on_object cs w rule.Describe a = finish_made Gives w (made_text w rule.Describe a)
@@ -293,7 +297,7 @@ on_object cs w (rule.DescribeBox type) a = finish_made Gives w (made_text w (rul
 on_object cs w _ a = Misuses
 
 -- of a method of an object, with one argument
-abbrev pub with_argument : Classes → World → Rule → Name → Held → Work
+abbrev pub with_argument : Classes → World → LibraryRule → Name → Held → Work
 with_argument cs w rule.SameObject a v = gives (truth (same_held a v)) w
 with_argument cs w rule.CharAt a (Int i) = char_in w (units_in w a) i
 with_argument cs w rule.SameText a v = gives (truth (same_units w (units_in w a) v)) w
@@ -302,18 +306,18 @@ with_argument cs w rule.FillBuffer a v = text_argument w v (λ text. unless_null
 with_argument cs w (rule.Append how) a v = spelled cs w how v (Appends a)
 with_argument cs w rule.SetMessage a v = text_argument w v (λ text. does (write_field w a message_field v))
 with_argument cs w (rule.Print how line) a v = spelled cs w how v (Prints line)
-with_argument cs w (rule.SetBox type) a v = does (write_field w a (value_field type) (narrowed type v))
+with_argument cs w (rule.SetBox type) a v = does (write_field w a (value_field type) (narrowed (element type) v))
 with_argument cs w (rule.SameBox type) a v = gives (truth (same_box w type a v)) w
 with_argument cs w _ a v = Misuses
 
 -- of a method of an object, with two arguments
-abbrev pub with_arguments : Classes → World → Rule → Name → Held → Held → Work
+abbrev pub with_arguments : Classes → World → LibraryRule → Name → Held → Held → Work
 with_arguments cs w rule.Substring a (Int begin) (Int end) = substring w (units_in w a) begin end
 with_arguments cs w rule.SetMessageAndCause a text cause = text_argument w text (λ units. set_cause cs w a text cause)
 with_arguments cs w _ a u v = Misuses
 
 -- of a static method
-abbrev pub by_static_rule : Classes → World → Rule → List Held → Work
+abbrev pub by_static_rule : Classes → World → LibraryRule → List Held → Work
 by_static_rule cs w rule.ForName (v ∷ []) = text_argument w v (λ text. unless_null_text text (λ units. for_name cs w v units))
 by_static_rule cs w (rule.ValueOf how) (v ∷ []) = spelled cs w how v Gives
 by_static_rule cs w rule.Exit (Int status ∷ []) = Exits status
@@ -323,7 +327,7 @@ by_static_rule cs w (rule.BoxOf type) (v ∷ []) = box_of w type v (make cs w (b
 by_static_rule cs w _ _ = Misuses
 
 -- of a method of an object
-abbrev pub by_rule : Classes → World → Rule → Name → List Held → Work
+abbrev pub by_rule : Classes → World → LibraryRule → Name → List Held → Work
 by_rule cs w r a [] = on_object cs w r a
 by_rule cs w r a (v ∷ []) = with_argument cs w r a v
 by_rule cs w r a (u ∷ v ∷ []) = with_arguments cs w r a u v

@@ -1,11 +1,11 @@
 -- The text of values, events and endings. Each event is a line of its own, and the ending the last one.
-use Rattle.std.specs.Prelude.{ℕ, zero, suc, ◌+◌, ◌/◌, ◌%◌, ◌==◌, ◌||◌, if◌then◌else◌, nat_lt, List, [], ◌∷◌, ◌++◌, codes, map, drop, Option, Some, None, pos}
-use Rattle.std.specs.List.{flat_map, join_with_byte}
+use Rattle.std.specs.Prelude.{ℕ, zero, suc, ◌/◌, ◌%◌, ◌==◌, ◌||◌, if◌then◌else◌, nat_lt, List, [], ◌∷◌, ◌++◌, codes, map, Option, Some, None, pos}
+use Rattle.std.specs.List.{flat_map}
 use Rattle.opcode_table.specs.Table.{mnemonic_of}
-use Rattle.class_file.specs.Pool.{Reference}
+use Rattle.class_heads.specs.Hierarchy.{before_semicolon}
 use Rattle.class_machine.specs.declared.kinds.Element.{Element}
 use Rattle.class_machine.specs.Numbers.{digit, decimal}
-use Rattle.class_machine.specs.Descriptors.{element_of, before_semicolon}
+use Rattle.class_machine.specs.Descriptors.{element_of}
 use Rattle.class_machine.specs.Classes.{dotted, member_text}
 use Rattle.class_machine.specs.Events.{Shown, Event, Print, Native, Ending, Returned, Uncaught, InitFailed, Exit, Unmodelled, Unresolved, ScriptEnds, Broken}
 use Rattle.class_machine.specs.Events as events

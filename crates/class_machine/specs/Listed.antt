@@ -1,16 +1,18 @@
 -- Programs whose code is given as lists of instructions, for worked examples. A place is a number in the list of a method.
-use Rattle.std.specs.Prelude.{ℕ, ◌+◌, ◌&&◌, Bool, true, false, List, [], ◌∷◌, ◌++◌, map, nat_le, nat_lt, slice_get, Option, Some, None, option_and_then}
+use Rattle.std.specs.Prelude.{ℕ, ◌+◌, ◌&&◌, Bool, true, false, List, [], ◌∷◌, map, length, nat_le, nat_lt, slice_get, Option, Some, None, option_and_then}
 use Rattle.std.specs.List.{find, filter, flat_map}
 use Rattle.std.specs.Option.{option_map, unwrap_or}
 use Rattle.event_machine.specs.Observation.{Observation, observed}
 use Rattle.class_file.specs.Pool.{NamedType, Reference}
-use Rattle.class_machine.specs.Values.{object_class}
+use Rattle.class_file.specs.declared.access.AccessFlags.{AccessFlags}
+use Rattle.class_heads.specs.declared.types.FieldHead.{FieldHead}
+use Rattle.class_heads.specs.declared.types.MethodHead.{MethodHead}
+use Rattle.class_heads.specs.declared.types.ClassHead.{ClassHead}
+use Rattle.class_machine.specs.Values.{object_class, Held}
 use Rattle.class_machine.specs.Events.{Event, Ending, Answer}
 use Rattle.class_machine.specs.Classes.{same_member, Method, Classes}
 use Rattle.class_machine.specs.Operations.{Operation}
-use Rattle.class_machine.specs.Library.{library}
-use Rattle.class_machine.specs.Declarations.{DeclaredField, DeclaredMethod, DeclaredClass, classes_of, method_in, library_class}
-use Rattle.class_machine.specs.Searches.{searched}
+use Rattle.class_machine.specs.Declarations.{declared_in, run_heads, classes_of, declared_method}
 use Rattle.class_machine.specs.Turn.{Entry, Handler, Code}
 use Rattle.class_machine.specs.Machine.{step}
 use Rattle.class_machine.specs.Start.{EntryArgument, start}
@@ -28,7 +30,7 @@ pub record Row : Type 0 where
   pub catch : Option (List ℕ)
 
 pub record ListedMethod : Type 0 where
-  pub declared : DeclaredMethod
+  pub declared : MethodHead
   -- none without code
   pub code : Option (List Listed)
   pub rows : List Row
@@ -36,7 +38,7 @@ pub record ListedMethod : Type 0 where
   pub locals : ℕ
 
 pub record ListedClass : Type 0 where
-  pub declared : DeclaredClass
+  pub declared : ClassHead
   pub methods : List ListedMethod
 
 -- a method of a class, with its code
@@ -51,7 +53,7 @@ abbrev pub body_of : List ℕ → ListedMethod → List Body
 body_of class m = with_lines m.code where
   with_lines : Option (List Listed) → List Body
   with_lines None = []
-  with_lines (Some lines) = record { method = record { class = class; member = m.declared.member }; lines = lines; rows = m.rows; room = m.room; locals = m.locals } ∷ []
+  with_lines (Some lines) = record { method = declared_in class m.declared.name; lines = lines; rows = m.rows; room = m.room; locals = m.locals } ∷ []
 
 abbrev pub bodies_of : ListedClass → List Body
 bodies_of c = flat_map (body_of c.declared.name) c.methods
@@ -101,11 +103,15 @@ listed_code bodies = record {
 
 -- ---- programs
 
-abbrev pub all_classes : List ListedClass → List DeclaredClass
-all_classes program = map (λ c. c.declared) program ++ map library_class library
+abbrev pub program_heads : List ListedClass → List ClassHead
+program_heads program = run_heads (map (λ c. c.declared) program)
+
+-- no field has a ConstantValue
+abbrev pub no_constant : Reference → Option Held
+no_constant r = None
 
 abbrev pub program_classes : List ListedClass → Classes
-program_classes program = classes_of (searched (all_classes program)) (all_classes program)
+program_classes program = classes_of (program_heads program) (length program) no_constant
 
 abbrev pub program_code : List ListedClass → Code Spot
 program_code program = listed_code (flat_map bodies_of program)
@@ -117,47 +123,69 @@ missing class member = record { name = record { class = class; member = member }
 abbrev pub runs_with : List Answer → List EntryArgument → ℕ → List ListedClass → Reference → Observation Event Ending
 runs_with answers words n program r =
     observed (step (program_code program) (program_classes program)) n
-    (start (program_code program) (program_classes program) answers (unwrap_or (method_in (all_classes program) r.member r.class) (missing r.class r.member)) words)
+    (start (program_code program) (program_classes program) answers (unwrap_or (declared_method (program_heads program) (length program) no_constant r.member r.class) (missing r.class r.member)) words)
 
 -- ---- notation
 
 abbrev pub member : List ℕ → List ℕ → NamedType
 member name descriptor = record { name = name; descriptor = descriptor }
 
-abbrev pub declared : Bool → List ℕ → List ℕ → DeclaredMethod
-declared static name descriptor = record { member = member name descriptor; is_static = static; is_private = false; is_synchronized = false; is_native = false; rule = None }
+abbrev pub flags : ℕ → AccessFlags
+flags bits = record { 0 = bits }
 
--- a static method, and one of an object, with room for 8 slots of operands and 6 locals
+abbrev pub declared : ℕ → List ℕ → List ℕ → MethodHead
+declared bits name descriptor = record { name = record { name = name; descriptor = descriptor }; flags = flags bits; exceptions = []; is_synthetic = false }
+
+-- a static method (0x0008), and one of an object, with room for 8 slots of operands and 6 locals
 abbrev pub static_method : List ℕ → List ℕ → List Listed → List Row → ListedMethod
-static_method name descriptor lines rows = record { declared = declared true name descriptor; code = Some lines; rows = rows; room = 8; locals = 6 }
+static_method name descriptor lines rows = record { declared = declared 0x0008 name descriptor; code = Some lines; rows = rows; room = 8; locals = 6 }
 
 abbrev pub object_method : List ℕ → List ℕ → List Listed → List Row → ListedMethod
-object_method name descriptor lines rows = record { declared = declared false name descriptor; code = Some lines; rows = rows; room = 8; locals = 6 }
+object_method name descriptor lines rows = record { declared = declared 0 name descriptor; code = Some lines; rows = rows; room = 8; locals = 6 }
 
 abbrev pub abstract_method : List ℕ → List ℕ → ListedMethod
-abstract_method name descriptor = record { declared = declared false name descriptor; code = None; rows = []; room = 0; locals = 0 }
+abstract_method name descriptor = record { declared = declared 0x0400 name descriptor; code = None; rows = []; room = 0; locals = 0 }
 
+-- native (0x0100) and static
 abbrev pub native_method : List ℕ → List ℕ → ListedMethod
-native_method name descriptor = record { declared = record (declared true name descriptor) { is_native = true }; code = None; rows = []; room = 0; locals = 0 }
+native_method name descriptor = record { declared = declared 0x0108 name descriptor; code = None; rows = []; room = 0; locals = 0 }
 
-abbrev pub static_field : List ℕ → List ℕ → DeclaredField
-static_field name descriptor = record { member = member name descriptor; is_static = true; constant = None }
+-- the same method, synchronized (0x0020)
+abbrev pub locked : ListedMethod → ListedMethod
+locked m = record m { declared = record (m.declared) { flags = flags 0x0020 } }
 
-abbrev pub object_field : List ℕ → List ℕ → DeclaredField
-object_field name descriptor = record { member = member name descriptor; is_static = false; constant = None }
+-- the same method, private (0x0002)
+abbrev pub hidden : ListedMethod → ListedMethod
+hidden m = record m { declared = record (m.declared) { flags = flags 0x0002 } }
 
-abbrev pub class_below : List ℕ → List ℕ → List (List ℕ) → List DeclaredField → List ListedMethod → ListedClass
-class_below name super interfaces fields methods = record {
-  declared = record { name = name; super_class = Some super; interfaces = interfaces; is_interface = false; is_abstract = false; is_super = true; fields = fields; methods = map (λ m. m.declared) methods };
-  methods = methods;
+abbrev pub field_with : ℕ → List ℕ → List ℕ → FieldHead
+field_with bits name descriptor = record { name = record { name = name; descriptor = descriptor }; flags = flags bits; is_synthetic = false; has_constant = false }
+
+abbrev pub static_field : List ℕ → List ℕ → FieldHead
+static_field name descriptor = field_with 0x0008 name descriptor
+
+abbrev pub object_field : List ℕ → List ℕ → FieldHead
+object_field name descriptor = field_with 0 name descriptor
+
+abbrev pub head : ℕ → List ℕ → List ℕ → List (List ℕ) → List FieldHead → List ListedMethod → ClassHead
+head bits name super interfaces fields methods = record {
+  name = name;
+  version = 46;
+  flags = flags bits;
+  super_class = Some super;
+  interfaces = interfaces;
+  fields = fields;
+  methods = map (λ m. m.declared) methods;
 }
+
+-- public (0x0001), with ACC_SUPER (0x0020)
+abbrev pub class_below : List ℕ → List ℕ → List (List ℕ) → List FieldHead → List ListedMethod → ListedClass
+class_below name super interfaces fields methods = record { declared = head 0x0021 name super interfaces fields methods; methods = methods }
 
 -- a class below Object
-abbrev pub class : List ℕ → List DeclaredField → List ListedMethod → ListedClass
+abbrev pub class : List ℕ → List FieldHead → List ListedMethod → ListedClass
 class name fields methods = class_below name object_class [] fields methods
 
+-- public, an interface (0x0200) and abstract (0x0400)
 abbrev pub interface : List ℕ → List ListedMethod → ListedClass
-interface name methods = record {
-  declared = record { name = name; super_class = Some object_class; interfaces = []; is_interface = true; is_abstract = true; is_super = false; fields = []; methods = map (λ m. m.declared) methods };
-  methods = methods;
-}
+interface name methods = record { declared = head 0x0601 name object_class [] [] methods; methods = methods }

@@ -10,7 +10,7 @@ use Rattle.class_machine.specs.Classes.{Method, Classes, fault_class}
 use Rattle.class_machine.specs.World.{World, make, begin, enter_monitor}
 use Rattle.class_machine.specs.Effect.{Effect, Ask, Announce, CallStatic, CallOn, Build, Throw}
 use Rattle.class_machine.specs.Answers.{Reply, Gives, Done, Faults, Refuses, answer}
-use Rattle.class_machine.specs.Rules.{Rule}
+use Rattle.boot_library.specs.declared.rule.LibraryRule.{LibraryRule}
 use Rattle.class_machine.specs.LibraryCalls.{Wait, Work, Results, Throws, Calls, Loads, Exits, Misuses}
 use Rattle.class_machine.specs.LibraryCalls as work
 use Rattle.class_machine.specs.Natives.{Response, Returns, Lacks, respond, native_event}
@@ -127,9 +127,9 @@ module _ {P Q : Type 0} (f : P → Q) (code : Code P) (code' : Code Q) (cs cs' :
   pub record BodyAlike (w w' : World) (m : Method) (receiver : Option Name) (given : List Held) : Type 0 where
     pub shown : m.is_native ≡ true → native_event w' m.name (with_receiver receiver given) ≡ native_event w m.name (with_receiver receiver given)
     pub responds : m.is_native ≡ true → ResponseKept Alike (respond cs w m.name) (respond cs' w' m.name)
-    pub works : (rule : Rule) → m.rule ≡ Some rule → WorkKept Alike (ruled code cs w rule receiver given) (ruled code' cs' w' rule receiver given)
+    pub works : (rule : LibraryRule) → m.rule ≡ Some rule → WorkKept Alike (ruled code cs w rule receiver given) (ruled code' cs' w' rule receiver given)
     -- where it loads a class, the same initialisers are pending
-    pub loads : (rule : Rule) (class : List ℕ) → m.rule ≡ Some rule → ruled code cs w rule receiver given ≡ Loads class → BeginsAlike class w w'
+    pub loads : (rule : LibraryRule) (class : List ℕ) → m.rule ≡ Some rule → ruled code cs w rule receiver given ≡ Loads class → BeginsAlike class w w'
 
   -- what the effect asks is answered alike, in a frame x whose growth is y
   abbrev pub AnsweredAlike : Frame P → Frame Q → World → World → Effect P → Type 0

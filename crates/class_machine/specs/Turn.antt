@@ -4,9 +4,10 @@
 use Rattle.std.specs.Prelude.{ℕ, ◌&&◌, ◌||◌, Bool, true, false, not, if◌then◌else◌, List, [], ◌∷◌, ◌++◌, map, replicate, is_some, nat_le, ◌-◌, Option, Some, None}
 use Rattle.std.specs.Option.{option_map}
 use Rattle.class_file.specs.Pool.{Reference}
+use Rattle.class_heads.specs.Hierarchy.{is_array}
 use Rattle.class_machine.specs.declared.kinds.Fault.{Fault}
 use Rattle.class_machine.specs.Values.{Name, ClassObject, class_of, throwable_class, Held, Reference as Pointer, arguments_width, Plain, ReturnAddress, Local, Unset, Content, content, pushed_on, has_room, kind_width, argument_locals, filled_in, filled_local}
-use Rattle.class_machine.specs.Descriptors.{kind_in, is_array, result_in}
+use Rattle.class_machine.specs.Descriptors.{kind_in, result_in}
 use Rattle.class_machine.specs.Events.{Event, Ending, Exit, Unresolved, Unmodelled, ScriptEnds}
 use Rattle.class_machine.specs.Events as events
 use Rattle.class_machine.specs.Classes.{dotted, member_text, is_constructor, Field, Method, Classes, is_among, select, select_special, fault_class}
@@ -15,7 +16,7 @@ use Rattle.class_machine.specs.Operations.{Operation}
 use Rattle.class_machine.specs.Effect.{Request, GetStatic, PutStatic, GetField, PutField, MakeArray, Cast, IsInstance, LoadClass, Setting, Effect, On, Jump, Enter, Back, Ask, Announce, CallStatic, CallOn, Build, Leave, Fail, Throw, is_broken, effect}
 use Rattle.class_machine.specs.Effect as effects
 use Rattle.class_machine.specs.Answers.{Reply, Gives, Done, Faults, Refuses, answer}
-use Rattle.class_machine.specs.Rules.{Rule}
+use Rattle.boot_library.specs.declared.rule.LibraryRule.{LibraryRule}
 use Rattle.class_machine.specs.LibraryCalls.{Wait, Work, Results, Throws, Calls, Loads, Exits, Misuses, by_rule, by_static_rule}
 use Rattle.class_machine.specs.LibraryCalls as work
 use Rattle.class_machine.specs.Natives.{Response, Returns, Lacks, respond, native_event}
@@ -292,11 +293,11 @@ module _ {P : Type 0} (code : Code P) (cs : Classes) where
   worked f c w super (Exits status) = stops (Exit status)
   worked f c w super Misuses = stops events.Broken
 
-  abbrev pub ruled : World → Rule → Option Name → List Held → Work
+  abbrev pub ruled : World → LibraryRule → Option Name → List Held → Work
   ruled w rule None given = by_static_rule cs w rule given
   ruled w rule (Some a) given = by_rule cs w rule a given
 
-  abbrev pub by_body : Purpose → Frame P → Content P → World → Reference → Method → Option Name → List Held → Option Rule → Turn P
+  abbrev pub by_body : Purpose → Frame P → Content P → World → Reference → Method → Option Name → List Held → Option LibraryRule → Turn P
   by_body purpose f c w r m receiver given (Some rule) = worked f c w (is_this_or_super purpose) (ruled w rule receiver given)
   by_body purpose f c w r m receiver given None = enters purpose c w r m receiver (with_receiver receiver given) (code.method m.name)
 

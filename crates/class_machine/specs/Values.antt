@@ -18,6 +18,9 @@ string_class = codes "java/lang/String"
 abbrev pub throwable_class : List ℕ
 throwable_class = codes "java/lang/Throwable"
 
+abbrev pub system_class : List ℕ
+system_class = codes "java/lang/System"
+
 abbrev pub print_stream_class : List ℕ
 print_stream_class = codes "java/io/PrintStream"
 

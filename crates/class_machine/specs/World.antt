@@ -4,9 +4,11 @@ use Rattle.std.specs.Prelude.{ℕ, suc, ◌-◌, ◌||◌, Bool, if◌then◌els
 use Rattle.std.specs.Option.{unwrap_or}
 use Rattle.std.specs.Str.{bytes_eq}
 use Rattle.class_file.specs.Pool.{Reference}
-use Rattle.class_machine.specs.declared.kinds.Element.{Element}
+use Rattle.boot_library.specs.declared.rule.Primitive.{Primitive}
+use Rattle.boot_library.specs.declared.rule.Primitive.TheVariants as boxed
+use Rattle.class_heads.specs.Hierarchy.{is_array}
 use Rattle.class_machine.specs.Values.{Name, Made, Literal, ClassObject, class_of, same_name, string_class, throwable_class, Held, Int, Long, Float, Double, Null, Reference as Pointer}
-use Rattle.class_machine.specs.Descriptors.{blank, element_of, is_array, primitive}
+use Rattle.class_machine.specs.Descriptors.{element, primitive, blank, element_of}
 use Rattle.class_machine.specs.Classes.{reference, same_member, Classes, marked}
 use Rattle.class_machine.specs.Events.{Answer, Shown}
 use Rattle.class_machine.specs.Events as events
@@ -88,19 +90,19 @@ message_field = reference throwable_class (codes "message") (codes "Ljava/lang/S
 abbrev pub cause_field : Reference
 cause_field = reference throwable_class (codes "cause") (codes "Ljava/lang/Throwable;")
 
-abbrev pub box_class : Element → List ℕ
-box_class Element.Boolean = codes "java/lang/Boolean"
-box_class Element.Byte = codes "java/lang/Byte"
-box_class Element.Char = codes "java/lang/Character"
-box_class Element.Short = codes "java/lang/Short"
-box_class Element.Int = codes "java/lang/Integer"
-box_class Element.Long = codes "java/lang/Long"
-box_class Element.Float = codes "java/lang/Float"
-box_class Element.Double = codes "java/lang/Double"
-box_class Element.Reference = []
+-- the class of a primitive type's boxes
+abbrev pub box_class : Primitive → List ℕ
+box_class boxed.Boolean = codes "java/lang/Boolean"
+box_class boxed.Byte = codes "java/lang/Byte"
+box_class boxed.Char = codes "java/lang/Character"
+box_class boxed.Short = codes "java/lang/Short"
+box_class boxed.Int = codes "java/lang/Integer"
+box_class boxed.Long = codes "java/lang/Long"
+box_class boxed.Float = codes "java/lang/Float"
+box_class boxed.Double = codes "java/lang/Double"
 
-abbrev pub value_field : Element → Reference
-value_field type = reference (box_class type) (codes "value") (primitive type)
+abbrev pub value_field : Primitive → Reference
+value_field type = reference (box_class type) (codes "value") (primitive (element type))
 
 -- what is in an object's field; null of what has no such field
 abbrev pub field_of : Option Object → Reference → Held

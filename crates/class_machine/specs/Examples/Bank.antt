@@ -16,11 +16,10 @@
 --             finally { System.out.println("balance " + x.balance()); }
 --         }
 --     }
-use Rattle.std.specs.Prelude.{◌≡◌, ℕ, List, [], ◌∷◌, ◌++◌, codes, map, Option, Some, None, true, false, pos, negsuc}
+use Rattle.std.specs.Prelude.{◌≡◌, ℕ, List, [], ◌∷◌, ◌++◌, codes, map, Option, Some, None, pos, negsuc}
 use Rattle.std.specs.Option.{option_map}
 use Rattle.std.proofs.Common.{refl}
 use Rattle.event_machine.specs.Observation.{Observation}
-use Rattle.opcode_table.specs.Table.{opcode}
 use Rattle.class_file.specs.Pool.{Reference}
 use Rattle.class_machine.specs.declared.kinds.Kind.{Kind}
 use Rattle.class_machine.specs.declared.kinds.Test.TheVariants.{Greater}
@@ -34,8 +33,9 @@ use Rattle.class_machine.specs.Events as events
 use Rattle.class_machine.specs.Classes.{reference}
 use Rattle.class_machine.specs.Lines.{event_text, ending_text}
 use Rattle.class_machine.specs.Operations.{New, FieldAccess}
-use Rattle.class_machine.specs.Listed.{Listed, Row, ListedMethod, ListedClass, class, object_field, object_method, static_method, native_method, runs_with}
-use Rattle.class_machine.specs.Examples.{plain, basic, to, int, load, text, add, int_return, void_return, invoke, get_static, output_field, print_line, action, make}
+use Rattle.class_machine.specs.Listed.{Listed, Row, ListedMethod, ListedClass, locked, class, object_field, object_method, static_method, native_method, runs_with}
+use Rattle.class_machine.specs.Declarations.{output_field}
+use Rattle.class_machine.specs.Examples.{plain, basic, to, int, load, text, add, int_return, void_return, invoke, get_static, print_line, action, make}
 use Rattle.class_machine.specs.Examples.LibraryRuns.{buffer, append, to_string}
 use Rattle.class_machine.specs.Start as words
 
@@ -69,7 +69,7 @@ put_together word value = make buffer ++ text word ∷ invoke Mode.Virtual (appe
 
 -- 3 lines make the exception's token, 8 its message
 abbrev pub deposit : ListedMethod
-deposit = record (object_method (codes "deposit") (codes "(I)V") lines []) { declared = record { member = record { name = codes "deposit"; descriptor = codes "(I)V" }; is_static = false; is_private = false; is_synchronized = true; is_native = false; rule = None } } where
+deposit = locked (object_method (codes "deposit") (codes "(I)V") lines []) where
   lines : List Listed
   lines =
       load 1 ∷ to (Basic.IfInt Greater) 14 ∷ plain (New refused) ∷ basic (Basic.Duplicate One Zero) ∷ put_together (codes "amount ") (load 1 ∷ [])

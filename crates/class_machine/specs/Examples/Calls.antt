@@ -2,6 +2,7 @@
 use Rattle.std.specs.Prelude.{◌≡◌, ℕ, List, [], ◌∷◌, ◌++◌, codes, Some, None, true, pos}
 use Rattle.std.proofs.Common.{refl}
 use Rattle.class_machine.specs.declared.kinds.Kind.{Kind}
+use Rattle.class_machine.specs.declared.kinds.Element.{Element}
 use Rattle.class_machine.specs.declared.kinds.Slots.TheVariants.{Zero, One}
 use Rattle.class_machine.specs.declared.kinds.Mode.{Mode}
 use Rattle.class_machine.specs.declared.kinds.Access.{Access}
@@ -10,16 +11,13 @@ use Rattle.class_machine.specs.Events as events
 use Rattle.class_machine.specs.Values.{object_class}
 use Rattle.class_machine.specs.Operations.{FieldAccess, New, CheckCast, ReferClass}
 use Rattle.class_machine.specs.Classes.{reference}
-use Rattle.class_machine.specs.Listed.{Listed, ListedMethod, class, class_below, interface, object_field, object_method, abstract_method}
-use Rattle.class_machine.specs.Examples.{plain, basic, to, int, int_return, void_return, null, ends, gives, returns, main_class, main_action, runs, acts, invoke, say, said, action, constructor_below, make, get_static, output_field, print_line}
+use Rattle.class_machine.specs.Listed.{Listed, ListedMethod, locked, hidden, class, class_below, interface, object_field, object_method, abstract_method}
+use Rattle.class_machine.specs.Declarations.{output_field}
+use Rattle.class_machine.specs.Examples.{plain, basic, to, int, int_return, void_return, null, ends, gives, returns, main_class, main_action, runs, acts, invoke, say, said, action, constructor_below, make, get_static, print_line}
 
 -- a method that says a word
 abbrev pub speaks : List ℕ → ListedMethod
 speaks word = object_method (codes "speak") (codes "()V") (say word ++ void_return ∷ []) []
-
--- the same method, synchronized
-abbrev pub locked : ListedMethod → ListedMethod
-locked m = record m { declared = record (m.declared) { is_synchronized = true } }
 
 -- the interface's method is selected from the class of the object upward: B's own, and A's for A
 selects : acts 40 (
@@ -30,6 +28,15 @@ selects : acts 40 (
     []
     ) ≡ returns (said (codes "b") ∷ said (codes "a") ∷ [])
 selects = refl
+
+-- B's private method is passed over, and runs where it is itself found
+passes_private : acts 40 (
+    class (codes "A") [] (constructor_below object_class ∷ speaks (codes "a") ∷ []) ∷
+    class_below (codes "B") (codes "A") [] [] (constructor_below (codes "A") ∷ hidden (speaks (codes "b")) ∷ []) ∷
+    main_action (make (codes "B") ++ basic (Basic.Duplicate One Zero) ∷ invoke Mode.Virtual (action (codes "A") (codes "speak")) ∷ invoke Mode.Virtual (action (codes "B") (codes "speak")) ∷ void_return ∷ []) [] ∷
+    []
+    ) ≡ returns (said (codes "a") ∷ said (codes "b") ∷ [])
+passes_private = refl
 
 -- `invokespecial` of a superclass's method starts at the direct superclass: B speaks as A does
 speaks_above : acts 40 (
@@ -52,6 +59,13 @@ builds = refl
 -- a token is no reference to compare
 token_compared : runs 3 (main_class (plain (New (codes "C")) ∷ basic (Basic.Duplicate One Zero) ∷ to (Basic.IfReferences true) 3 ∷ int (pos 3) ∷ int_return ∷ []) [] ∷ []) ≡ ends [] events.Broken
 token_compared = refl
+
+-- an array has the methods of Object, where the class of its elements is there: this one is the first of its type
+array_method : runs 4 (main_class (int (pos 3) ∷ basic (Basic.NewArray Element.Int) ∷ invoke Mode.Virtual (reference (codes "[I") (codes "hashCode") (codes "()I")) ∷ int_return ∷ []) [] ∷ []) ≡ gives (pos 1)
+array_method = refl
+
+unknown_array_method : runs 2 (main_class (null ∷ invoke Mode.Virtual (reference (codes "[LGone;") (codes "hashCode") (codes "()I")) ∷ int_return ∷ []) [] ∷ []) ≡ ends [] (events.Unresolved (codes "[LGone;.hashCode"))
+unknown_array_method = refl
 
 abbrev pub number_field : Listed
 number_field = plain (FieldAccess Access.GetField (reference (codes "B") (codes "n") (codes "B")))

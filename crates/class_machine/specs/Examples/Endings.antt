@@ -7,7 +7,7 @@ use Rattle.class_machine.specs.declared.kinds.Constant.TheVariants as constant
 use Rattle.class_machine.specs.declared.kinds.Mode.{Mode}
 use Rattle.class_machine.specs.declared.meaning.Basic.{Basic}
 use Rattle.class_machine.specs.Events as events
-use Rattle.class_machine.specs.Library.{system_class}
+use Rattle.class_machine.specs.Values.{system_class}
 use Rattle.class_machine.specs.Operations.{New}
 use Rattle.class_machine.specs.Classes.{reference}
 use Rattle.class_machine.specs.Listed.{class, native_method, runs_with, static_method}

@@ -1,6 +1,6 @@
 -- A class file that runs: the class
 --     class C { static void m() { System.out.println("m"); }  static void main() { m(); } }
-use Rattle.std.specs.Prelude.{◌≡◌, ℕ, List, [], ◌∷◌, map, codes, Some, None}
+use Rattle.std.specs.Prelude.{◌≡◌, ℕ, List, [], ◌∷◌, ◌++◌, codes, Some, None, pos}
 use Rattle.std.specs.Option.{unwrap_or}
 use Rattle.std.proofs.Common.{refl}
 use Rattle.event_machine.specs.Observation.{Observation}
@@ -15,7 +15,6 @@ use Rattle.class_file.specs.declared.types.CodeAttr.{CodeAttr}
 use Rattle.class_machine.specs.Events.{Event, Ending}
 use Rattle.class_machine.specs.Events as events
 use Rattle.class_machine.specs.Classes.{Method}
-use Rattle.class_machine.specs.Searches.{searched}
 use Rattle.class_machine.specs.Run.{declared_method, class_observation}
 use Rattle.class_machine.specs.Listed.{missing, member}
 use Rattle.class_machine.specs.Examples.{said}
@@ -56,11 +55,11 @@ file = record {
 }
 
 abbrev pub main : Method
-main = unwrap_or (declared_method searched (file ∷ []) (member (codes "main") (codes "()V")) (codes "C")) (missing (codes "C") (member (codes "main") (codes "()V")))
+main = unwrap_or (declared_method (file ∷ []) (member (codes "main") (codes "()V")) (codes "C")) (missing (codes "C") (member (codes "main") (codes "()V")))
 
 -- what is observed within n steps
 abbrev pub runs : ℕ → Observation Event Ending
-runs = class_observation searched (file ∷ []) [] main []
+runs = class_observation (file ∷ []) [] main []
 
 six_steps : runs 6 ≡ record { events = said (codes "m") ∷ []; ending = Some (events.Returned None) }
 unfolding decoded opcode
@@ -69,3 +68,26 @@ six_steps = refl
 five_steps : runs 5 ≡ record { events = said (codes "m") ∷ []; ending = None }
 unfolding decoded opcode
 five_steps = refl
+
+-- ---- a field with a ConstantValue: class C { static final int n = 7;  static int get() { return n; } }, where the code reads n
+
+abbrev pub constant_pool : List PoolEntry
+constant_pool =
+    pool
+    ++ entry.Utf8 (codes "n") ∷ entry.Utf8 (codes "I") ∷ entry.NameAndType 24 25 ∷ entry.Fieldref 2 26 ∷  -- 24, 25, 26, 27
+    entry.Integer (pos 7) ∷ entry.Utf8 (codes "ConstantValue") ∷  -- 28, 29
+    entry.Utf8 (codes "get") ∷ entry.Utf8 (codes "()I") ∷ []  -- 30, 31
+
+abbrev pub constant_field : Member
+constant_field = record { flags = record { 0 = 24 }; name = 24; descriptor = 25; attributes = record { name = 29; content = content.ConstantValue 28 } ∷ [] }
+
+-- get: getstatic C.n, ireturn
+abbrev pub constant_file : ClassFile
+constant_file = record file { pool = constant_pool; fields = constant_field ∷ []; methods = record (static_member 30 (code_attribute 1 (178 ∷ 0 ∷ 27 ∷ 172 ∷ []))) { descriptor = 31 } ∷ [] }
+
+abbrev pub get : Method
+get = unwrap_or (declared_method (constant_file ∷ []) (member (codes "get") (codes "()I")) (codes "C")) (missing (codes "C") (member (codes "get") (codes "()I")))
+
+constant_read : class_observation (constant_file ∷ []) [] get [] 2 ≡ record { events = []; ending = Some (events.Returned (Some (events.Int (pos 7)))) }
+unfolding decoded opcode
+constant_read = refl

@@ -9,7 +9,8 @@ use Rattle.class_machine.specs.Events as events
 use Rattle.class_machine.specs.Values.{object_class, class_class, string_class}
 use Rattle.class_machine.specs.Classes.{reference}
 use Rattle.class_machine.specs.Listed.{ListedMethod, ListedClass, class, class_below, object_method}
-use Rattle.class_machine.specs.Examples.{basic, int, long, text, int_return, void_return, ends, gives, returns, main_class, main_action, runs, acts, invoke, get_static, output_field, print_line, say, said, constructor_below, initialiser, make}
+use Rattle.class_machine.specs.Declarations.{output_field}
+use Rattle.class_machine.specs.Examples.{basic, int, long, text, int_return, void_return, ends, gives, returns, main_class, main_action, runs, acts, invoke, get_static, print_line, say, said, constructor_below, initialiser, make}
 
 abbrev pub buffer : List ℕ
 buffer = codes "java/lang/StringBuffer"
@@ -50,6 +51,16 @@ finds_class = refl
 
 no_class : acts 20 (main_action (text (codes "b/B") ∷ invoke Mode.Static (reference class_class (codes "forName") (codes "(Ljava/lang/String;)Ljava/lang/Class;")) ∷ void_return ∷ []) [] ∷ class (codes "b/B") [] [] ∷ []) ≡ ends [] (events.Uncaught (codes "java/lang/ClassNotFoundException") (Some (codes "b/B")))
 no_class = refl
+
+-- an array type's name is its descriptor, and `[Q` is none
+abbrev pub name_of_class : List ℕ → List ListedClass
+name_of_class name = main_action (get_static output_field ∷ text name ∷ invoke Mode.Static (reference class_class (codes "forName") (codes "(Ljava/lang/String;)Ljava/lang/Class;")) ∷ invoke Mode.Virtual (reference class_class (codes "getName") (codes "()Ljava/lang/String;")) ∷ print_line (codes "(Ljava/lang/String;)V") ∷ void_return ∷ []) [] ∷ []
+
+finds_array : acts 20 (name_of_class (codes "[[I")) ≡ returns (said (codes "[[I") ∷ [])
+finds_array = refl
+
+no_array : acts 20 (name_of_class (codes "[Q")) ≡ ends [] (events.Uncaught (codes "java/lang/ClassNotFoundException") (Some (codes "[Q")))
+no_array = refl
 
 -- a boxed long: its hash is the low half xor the high half
 hashes : runs 5 (main_class (long (pos 4294967298) ∷ invoke Mode.Static (reference (codes "java/lang/Long") (codes "valueOf") (codes "(J)Ljava/lang/Long;")) ∷ invoke Mode.Virtual (reference object_class (codes "hashCode") (codes "()I")) ∷ int_return ∷ []) [] ∷ []) ≡ gives (pos 3)

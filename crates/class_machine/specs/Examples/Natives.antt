@@ -11,7 +11,8 @@ use Rattle.class_machine.specs.Events.{Event, Ending, Answer}
 use Rattle.class_machine.specs.Events as events
 use Rattle.class_machine.specs.Classes.{reference}
 use Rattle.class_machine.specs.Listed.{Listed, Row, ListedClass, class, static_method, native_method, runs_with}
-use Rattle.class_machine.specs.Examples.{basic, int, add, int_return, ends, get_static, output_field, print_line, invoke}
+use Rattle.class_machine.specs.Declarations.{output_field}
+use Rattle.class_machine.specs.Examples.{basic, int, add, int_return, ends, get_static, print_line, invoke}
 
 abbrev pub ask : Reference
 ask = reference (codes "C") (codes "ask") (codes "(I)I")

@@ -1,26 +1,24 @@
 -- Code that is laid out at other places runs as it did: the two machines are observationally equivalent.
-use Rattle.std.proofs.Common.{◌≡◌, ℕ, ◌+◌, Bool, true, false, List, [], ◌∷◌, ◌++◌, Option, Some, None, inl, inr, refl, sym, ap, ◌∙◌, subst, IsTrue, ◌⊎◌}
-use Rattle.std.specs.Prelude.{if◌then◌else◌}
+use Rattle.std.proofs.Common.{◌≡◌, Bool, true, false, List, [], ◌∷◌, Option, Some, None, inl, inr, refl, sym, ap, ◌∙◌, IsTrue, ◌⊎◌}
 use Rattle.std.specs.Option.{option_map}
-use Rattle.event_machine.specs.Outcome.{Outcome, Went, Said, Ended}
+use Rattle.event_machine.specs.Outcome.{Went, Said, Ended}
 use Rattle.event_machine.specs.Alike.{Alike}
 use Rattle.event_machine.specs.Equivalent.{Equivalent}
 use Rattle.event_machine.specs.Follows.{no_waits}
 use Rattle.event_machine.specs.Laws.{simulated, locked}
-use Rattle.class_file.specs.Pool.{Reference}
-use Rattle.class_machine.specs.Values.{Name, class_of, Held, Content}
+use Rattle.class_machine.specs.Values.{Name, Held, Content}
 use Rattle.class_machine.specs.Descriptors.{result_in}
 use Rattle.class_machine.specs.Events.{Event, Ending, Returned, Uncaught, InitFailed, Exit, Unmodelled, Unresolved, ScriptEnds, Broken, is_broken}
 use Rattle.class_machine.specs.Classes.{Classes}
-use Rattle.class_machine.specs.World.{World, shown, message_of}
-use Rattle.class_machine.specs.LibraryCalls.{Wait, resume}
+use Rattle.class_machine.specs.World.{World}
+use Rattle.class_machine.specs.LibraryCalls.{resume}
 use Rattle.class_machine.specs.Natives.{Response, Returns, Throws, Lacks, respond, native_event}
 use Rattle.class_machine.specs.Turn.{Handler, Code, Purpose, Ordinary, Constructs, Initialises, Within, Frame, frame_at, Turn, Stays, Completes, Enters, Leaves, Begins, Raises, Finishes}
 use Rattle.class_machine.specs.Turn as turns
 use Rattle.class_machine.specs.Machine
 use Rattle.class_machine.specs.Machine.{Due, Nothing, NativeEntry, Finally, State, Step, leaving, telling, closing, step}
 use Rattle.class_machine.specs.Renaming.{grown}
-use Rattle.class_machine.specs.Standing.{Growth, SameResult, Stands, Handles, moved_handler, Arrives, grown_frame, AllStart, EndKept, TurnKept, Agrees}
+use Rattle.class_machine.specs.Standing.{Growth, SameResult, moved_handler, grown_frame, AllStart, EndKept, TurnKept, Agrees}
 use Rattle.class_machine.specs.Moving.{IsMoved, StateMoved}
 use Rattle.class_machine.specs.Laws.SameWorld.{Same, agrees_same, begins_same, work_same, turn_same, start_append}
 use Rattle.class_machine.specs.Laws.WaitingKept.{taking_kept, constructing_kept, resuming_kept, catching_kept, handler_kept}

@@ -5,9 +5,10 @@ use Rattle.std.specs.Option.{option_map}
 use Rattle.std.proofs.lemmas.Bool.Decides.{nat_tests}
 use Rattle.std.proofs.lemmas.List.{map-append}
 use Rattle.class_file.specs.Pool.{Reference}
+use Rattle.class_heads.specs.Hierarchy.{is_array}
 use Rattle.class_machine.specs.declared.kinds.Fault.{Fault}
 use Rattle.class_machine.specs.Values.{Name, ClassObject, class_of, throwable_class, Held, Reference as Pointer, Plain, ReturnAddress, Unset, Holds, Second, Content, pushed_on, is_wide_held, argument_locals, arguments_width}
-use Rattle.class_machine.specs.Descriptors.{kind_in, is_array, result_in}
+use Rattle.class_machine.specs.Descriptors.{kind_in, result_in}
 use Rattle.class_machine.specs.Events.{Event, Ending, Returned, Uncaught, InitFailed, Exit, Unmodelled, Unresolved, ScriptEnds}
 use Rattle.class_machine.specs.Events as events
 use Rattle.class_machine.specs.Classes.{dotted, member_text, Method, Classes, is_among}
@@ -16,7 +17,7 @@ use Rattle.class_machine.specs.Operations.{Operation}
 use Rattle.class_machine.specs.Effect.{Setting, Effect, On, Jump, Enter, Back, Ask, Announce, CallStatic, CallOn, Build, Leave, Fail, Throw, is_broken, effect}
 use Rattle.class_machine.specs.Effect as effects
 use Rattle.class_machine.specs.Answers.{Reply, Gives, Done, Faults, Refuses, answer}
-use Rattle.class_machine.specs.Rules.{Rule}
+use Rattle.boot_library.specs.declared.rule.LibraryRule.{LibraryRule}
 use Rattle.class_machine.specs.LibraryCalls.{Wait, Work, Results, Throws, Calls, Loads, Exits, Misuses}
 use Rattle.class_machine.specs.LibraryCalls as work
 use Rattle.class_machine.specs.Natives.{Response, Returns, Lacks, respond, native_event}
@@ -165,7 +166,7 @@ module _ {P Q : Type 0} (f at : P → Q) (code : Code P) (code' : Code Q) (cs cs
     worked_kept c w w' a super Misuses r' k h = tt
 
     by_body_kept : (purpose : Purpose) (c : Content P) (w w' : World) → Alike w w' → (r : Reference) (m : Method) (receiver : Option Name) (given : List Held) → BodyAlike f code code' cs cs' Alike w w' m receiver given →
-        (o : Option Rule) → m.rule ≡ o → TK g (Turn.by_body code cs purpose x c w r m receiver given o) (Turn.by_body code' cs' purpose y (gc c) w' r m receiver given o)
+        (o : Option LibraryRule) → m.rule ≡ o → TK g (Turn.by_body code cs purpose x c w r m receiver given o) (Turn.by_body code' cs' purpose y (gc c) w' r m receiver given o)
     by_body_kept purpose c w w' a r m receiver given k (Some rule) e =
         worked_kept c w w' a (Turn.is_this_or_super code cs purpose) (Turn.ruled code cs w rule receiver given) (Turn.ruled code' cs' w' rule receiver given) (k.works rule e) (λ class l. k.loads rule class e l)
     by_body_kept purpose c w w' a r m receiver given k None e = enters_kept purpose c w w' a r m receiver (with_receiver receiver given) (code.method m.name) (code'.method m.name) (arrives.method m.name)
