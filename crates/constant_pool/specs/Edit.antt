@@ -45,6 +45,10 @@ with_class pool name = let text = with_text pool name in with_entry text.0 (entr
 unfoldable pub with_string : List PoolEntry → List ℕ → Placed
 with_string pool units = let text = with_text pool (text_spelling units) in with_entry text.0 (entry.String text.1)
 
+-- the same for a text that is spelled already
+unfoldable pub with_string_text : List PoolEntry → List ℕ → Placed
+with_string_text pool text = let t = with_text pool text in with_entry t.0 (entry.String t.1)
+
 unfoldable pub with_named_type : List PoolEntry → List ℕ → List ℕ → Placed
 with_named_type pool name descriptor =
     let n = with_text pool name in

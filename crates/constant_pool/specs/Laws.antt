@@ -10,7 +10,7 @@ use Rattle.class_file.specs.declared.pool.PoolEntry.TheVariants as entry
 use Rattle.class_file.specs.contracts.pool.PoolEntryEq.TheImpl.Laws as laws
 use Rattle.class_file.specs.Sound.{is_wide}
 use Rattle.aj_names.specs.ModifiedUtf8.{text_spelling}
-use Rattle.constant_pool.specs.Edit.{same_entry, least_index, slots, placed_at, with_entry, with_text, with_class, with_string, with_named_type, with_member, member_entry, Extends}
+use Rattle.constant_pool.specs.Edit.{same_entry, least_index, slots, placed_at, with_entry, with_text, with_class, with_string, with_string_text, with_named_type, with_member, member_entry, Extends}
 use Rattle.constant_pool.specs.declared.calls.MemberKind.{MemberKind}
 
 -- ---- the test on entries
@@ -125,6 +125,10 @@ text_extends pool text = entry_extends pool (entry.Utf8 text)
 pub class_extends : (pool : List PoolEntry) (name : List ℕ) → Extends pool (with_class pool name).0
 unfolding with_class
 class_extends pool name = let t = with_text pool name in extends-further pool t.0 (with_entry t.0 (entry.Class t.1)).0 (text_extends pool name) (entry_extends t.0 (entry.Class t.1))
+
+pub string_text_extends : (pool : List PoolEntry) (text : List ℕ) → Extends pool (with_string_text pool text).0
+unfolding with_string_text
+string_text_extends pool text = let t = with_text pool text in extends-further pool t.0 (with_entry t.0 (entry.String t.1)).0 (text_extends pool text) (entry_extends t.0 (entry.String t.1))
 
 pub string_extends : (pool : List PoolEntry) (units : List ℕ) → Extends pool (with_string pool units).0
 unfolding with_string

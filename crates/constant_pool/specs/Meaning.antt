@@ -12,7 +12,7 @@ use Rattle.aj_names.specs.declared.types.FieldName.{FieldName}
 use Rattle.aj_names.specs.declared.types.MethodName.{MethodName}
 use Rattle.constant_pool.specs.declared.calls.MemberKind.{MemberKind}
 use Rattle.constant_pool.specs.declared.calls.MemberKind.TheVariants as kind
-use Rattle.constant_pool.specs.Edit.{same_entry, least_index, slots, placed_at, with_entry, with_text, with_class, with_string, with_named_type, with_member, member_entry, method_kind, with_field, with_method, Extends}
+use Rattle.constant_pool.specs.Edit.{same_entry, least_index, slots, placed_at, with_entry, with_text, with_class, with_string, with_string_text, with_named_type, with_member, member_entry, method_kind, with_field, with_method, Extends}
 use Rattle.constant_pool.specs.Laws.{same_entry-equal, same_entry-itself, entry_extends, text_extends, named_type_extends}
 
 -- ---- the least index
@@ -159,6 +159,13 @@ string_found pool units =
     let t = with_text pool (text_spelling units) in
     let w = with_entry t.0 (entry.String t.1) in
     ap (option_and_then (as_string w.0)) (entry_found t.0 (entry.String t.1)) ∙ text_stays t.0 w.0 (entry_extends t.0 (entry.String t.1)) t.1 (text_spelling units) (text_found pool (text_spelling units))
+
+pub string_text_found : (pool : List PoolEntry) (text : List ℕ) → string_at (with_string_text pool text).0 (with_string_text pool text).1 ≡ Some text
+unfolding with_string_text
+string_text_found pool text =
+    let t = with_text pool text in
+    let w = with_entry t.0 (entry.String t.1) in
+    ap (option_and_then (as_string w.0)) (entry_found t.0 (entry.String t.1)) ∙ text_stays t.0 w.0 (entry_extends t.0 (entry.String t.1)) t.1 text (text_found pool text)
 
 pub named_type_found : (pool : List PoolEntry) (name descriptor : List ℕ) → named_type_at (with_named_type pool name descriptor).0 (with_named_type pool name descriptor).1 ≡ Some (record { name = name; descriptor = descriptor })
 unfolding with_named_type

@@ -3,7 +3,7 @@
 ghost use Rattle.std.specs.Prelude.{◌≡◌, ◌≤◌, length, Some, IfOk, OnErr};
 ghost use Rattle.aj_names.specs.ModifiedUtf8.{text_spelling};
 ghost use Rattle.class_file.specs.declared.pool.PoolEntry.{PoolEntry};
-ghost use Rattle.constant_pool.specs.Edit.{with_entry, with_text, with_class, with_string, with_named_type, with_member, with_field, with_method, method_kind, member_entry, Extends};
+ghost use Rattle.constant_pool.specs.Edit.{with_entry, with_text, with_class, with_string, with_string_text, with_named_type, with_member, with_field, with_method, method_kind, member_entry, Extends};
 ghost use Rattle.class_file.specs.Pool.{entry_at, text_at, class_at, string_at, field_at};
 ghost use Rattle.constant_pool.specs.Meaning.{reference, NamesMember};
 ghost use Rattle.constant_pool.specs.Answers.{Gives, IsFull};
@@ -63,6 +63,16 @@ impl PoolEdit {
         let bytes = utf8_write(self.allocator(), units)?;
         let text = self.place(PoolEntry::Utf8(ByteString::from_vec(bytes)))?;
         self.place(PoolEntry::String(text))
+    }
+
+    fn string_text_entries(&mut self, text: &[u8]) -> Result<u16, PoolFault>
+        ensures found { Gives (with_string_text self.old text.now) self.new result }
+        ensures full { IsFull (with_string_text self.old text.now) result }
+        ensures fits { length self.new ≤ 65534 }
+        ensures kept { OnErr result (Extends self.old self.new) }
+    {
+        let spelled = self.text(text)?;
+        self.place(PoolEntry::String(spelled))
     }
 
     fn named_type_entries(&mut self, name: &[u8], descriptor: &[u8]) -> Result<u16, PoolFault>
@@ -168,6 +178,26 @@ impl PoolEdit {
     {
         let len = self.entries().len();
         match self.string_entries(units) {
+            Ok(index) => Ok(index),
+            Err(fault) => {
+                self.cut(len);
+                Err(fault)
+            }
+        }
+    }
+
+    /// The index of a string constant of this text in modified UTF-8 (JVMS 4.4.3).
+    pub fn string_text(&mut self, text: &[u8]) -> Result<u16, PoolFault>
+        requires { length text.now ≤ 65535 }
+        ensures found { Gives (with_string_text self.old text.now) self.new result }
+        ensures full { IsFull (with_string_text self.old text.now) result }
+        ensures fits { length self.new ≤ 65534 }
+        ensures stands { IfOk result (λ index. string_at self.new index ≡ Some text.now) }
+        ensures stays { Extends self.old self.new }
+        ensures kept { OnErr result (self.new ≡ self.old) }
+    {
+        let len = self.entries().len();
+        match self.string_text_entries(text) {
             Ok(index) => Ok(index),
             Err(fault) => {
                 self.cut(len);
