@@ -5,7 +5,6 @@ pub mod FieldLists
 pub mod WordLists
 pub mod PieceLists
 pub mod CodeLists
-pub mod LineLists
 pub mod CaseLists
 pub mod Spaced
 pub mod NumbersRead

@@ -8,4 +8,4 @@ pub mod Reading
 pub mod Printing
 pub mod Lines
 pub mod Recoding
-pub mod Numbered
+pub mod Heard

@@ -19,7 +19,7 @@ pub use fault::LineFault;
 pub use line::{Case, Constant, Line, MemberHead, Operation};
 pub use printing::put_line;
 pub use reading::read_line;
-pub use text::{TextLine, text_lines};
+pub use text::read_text_line;
 
 #[cfg(test)]
 mod tests;

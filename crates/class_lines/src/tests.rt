@@ -1,5 +1,4 @@
 use super::*;
-use std::alloc::AllocError;
 
 /// What a line is printed as, or nothing where it is no line or says nothing.
 fn printed(rt: &HostRuntime, line: &[u8]) -> Result<Option<Vec<u8>>, LineFault> {
@@ -187,21 +186,12 @@ fn passes_over_comments(rt: HostRuntime) {
 }
 
 #[test]
-fn numbers_lines(rt: HostRuntime) -> Result<(), AllocError> {
-    let text = "; a class\nclass C\u{e9} super D version 48\n\nfield x\n  end";
-    let lines = text_lines(rt.alloc(), text.as_bytes())?;
-    // The number of each line that says something, and whether it is of the form.
-    let wanted = [(2, true), (4, false), (5, true)];
-    assert_eq!(rt; lines.len(), wanted.len());
-    for (line, (number, is_line)) in lines.as_slice().iter().zip(wanted) {
-        assert_eq!(rt; line.number, number);
-        assert_eq!(rt; line.line.is_some(), is_line);
+fn reads_lines_in_utf8(rt: HostRuntime) {
+    let alloc = rt.alloc();
+    for line in ["new C\u{e9}", "new C\u{20ac}", "new C\u{1f600}"] {
+        assert!(rt; matches!(read_text_line(alloc, line.as_bytes()), Ok(Some(_))));
     }
-    Ok(())
-}
-
-#[test]
-fn refuses_other_codes(rt: HostRuntime) -> Result<(), AllocError> {
+    assert!(rt; matches!(read_text_line(alloc, b" ; new"), Ok(None)));
     let table: [&[u8]; 6] = [
         b"new C\x80",
         b"new C\xc0\x80",
@@ -211,10 +201,6 @@ fn refuses_other_codes(rt: HostRuntime) -> Result<(), AllocError> {
         b"new C\xf0\x9f\x98",
     ];
     for line in table {
-        let lines = text_lines(rt.alloc(), line)?;
-        assert!(rt; lines.len() == 1 && lines.as_slice()[0].line.is_none());
+        assert!(rt; matches!(read_text_line(alloc, line), Err(LineFault::Form)));
     }
-    let lines = text_lines(rt.alloc(), "new C\u{1f600}".as_bytes())?;
-    assert!(rt; lines.len() == 1 && lines.as_slice()[0].line.is_some());
-    Ok(())
 }

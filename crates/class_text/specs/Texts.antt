@@ -3,7 +3,7 @@ use Rattle.std.specs.Prelude.{◌≡◌, ℕ, ◌+◌, ◌==◌, Bool, not, if�
 use Rattle.std.specs.List.{cons_option}
 use Rattle.class_lines.specs.declared.line.Line.{Line}
 use Rattle.class_lines.specs.Words.{Text}
-use Rattle.class_lines.specs.Reading.{read_as}
+use Rattle.class_lines.specs.Heard.{heard}
 use Rattle.class_text.specs.declared.numbered.Numbered.{Numbered}
 
 abbrev pub is_in_line : ℕ → Bool
@@ -25,7 +25,7 @@ said number (Some (Some line)) = Some (record { number = number; line = Some lin
 said number None = Some (record { number = number; line = None })
 
 abbrev pub line_numbered : ℕ → Text → Option Numbered
-line_numbered number text = said number (read_as text)
+line_numbered number text = said number (heard text)
 
 -- the lines with their numbers, from this one on
 abbrev pub numbered : ℕ → List Text → List Numbered

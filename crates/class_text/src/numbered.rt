@@ -1,11 +1,11 @@
-//! The lines of a text with their numbers.
+//! The lines of a text in UTF-8 with their numbers.
 
 ghost use Rattle.std.specs.Prelude.{◌≡◌, ◌+◌, ◌++◌, [], drop, length, IfOk, OnOk};
 ghost use Rattle.std.specs.List.{cons_option};
 ghost use Rattle.class_lines.specs.Fields.{run_of, behind_run};
 ghost use Rattle.class_text.specs.Texts.{is_in_line, lines, line_numbered, numbered};
 
-use class_lines::{Line, LineFault, read_line};
+use class_lines::{Line, LineFault, read_text_line};
 use sqlite_items::Items;
 use std::alloc::{AllocError, Global};
 
@@ -57,7 +57,7 @@ fn split_line(text: &[u8]) -> (&[u8], &[u8])
 fn numbered_line(alloc: Global, number: usize, text: &[u8]) -> Result<Option<Numbered>, AllocError>
     ensures { IfOk result (λ line. line_numbered number text.now ≡ line) }
 {
-    match read_line(alloc, text) {
+    match read_text_line(alloc, text) {
         Ok(Some(line)) => Ok(Some(Numbered {
             number,
             line: Some(line),

@@ -53,7 +53,7 @@ fn refusal(alloc: Global, number: usize, lines: &[Numbered]) -> TextFault
     }
 }
 
-/// The class file that a text is. A class line stands first, and then lines of fields and methods in
+/// The class file that a text in UTF-8 is. A class line stands first, and then lines of fields and methods in
 /// any order; behind that of a method with code stand lines of instructions and of the exception
 /// table, in any order too, and `end`. The pool's entries are made in order of first use, operands
 /// before the entry that names them, as the class file is read from this class to its end, with the
