@@ -10,6 +10,10 @@ use Rattle.class_world.specs.declared.lookups.upward.Wanted.TheVariants.{Declare
 abbrev pub member_place : Found → MemberPlace
 member_place found = record { class = found.class; position = found.position }
 
+-- a member's name, by its parts
+abbrev pub member_named : List ℕ → List ℕ → MemberName
+member_named name descriptor = record { name = name; descriptor = descriptor }
+
 -- where the class at a place has a method that is wanted
 abbrev pub wanted_in : List ClassHead → Wanted → MemberName → ℕ → Option ℕ
 wanted_in heads Declared member place = method_in heads member place

@@ -4,7 +4,7 @@ ghost use Rattle.std.specs.Prelude.{◌≡◌, ◌<◌};
 ghost use Rattle.std.specs.List.{position_from, filter};
 ghost use Rattle.std.specs.Option.{option_map};
 ghost use Rattle.class_heads.specs.Searches as rule;
-ghost use Rattle.class_world.specs.Found.{member_place};
+ghost use Rattle.class_world.specs.Found.{member_place, member_named};
 
 use aj_names::MemberName;
 use class_heads::{ClassHead, FieldHead, MethodHead};
@@ -17,44 +17,49 @@ pub(crate) struct Found {
     pub(crate) position: usize,
 }
 
-fn same_name(one: &MemberName, other: &MemberName) -> bool
-    ensures { result ≡ rule.same_name one.now other.now }
+fn is_named(member: &MemberName, name: &[u8], descriptor: &[u8]) -> bool
+    ensures { result ≡ rule.same_name member.now (member_named name.now descriptor.now) }
 {
-    one.name == other.name && one.descriptor == other.descriptor
+    member.name.as_slice() == name && member.descriptor.as_slice() == descriptor
 }
 
-fn field_position(fields: &[FieldHead], member: &MemberName) -> Option<usize>
-    ensures { result ≡ position_from (λ field. rule.same_name field.name member.now) 0 fields.now }
+fn field_position(fields: &[FieldHead], name: &[u8], descriptor: &[u8]) -> Option<usize>
+    ensures { result ≡ position_from (λ field. rule.same_name field.name (member_named name.now descriptor.now)) 0 fields.now }
 {
     fields
         .iter()
-        .position(|field| same_name(&field.name, member))
+        .position(|field| is_named(&field.name, name, descriptor))
 }
 
-fn method_position(methods: &[MethodHead], member: &MemberName) -> Option<usize>
-    ensures { result ≡ position_from (λ method. rule.same_name method.name member.now) 0 methods.now }
+fn method_position(methods: &[MethodHead], name: &[u8], descriptor: &[u8]) -> Option<usize>
+    ensures { result ≡ position_from (λ method. rule.same_name method.name (member_named name.now descriptor.now)) 0 methods.now }
 {
     methods
         .iter()
-        .position(|method| same_name(&method.name, member))
+        .position(|method| is_named(&method.name, name, descriptor))
 }
 
 // The position of the field in the class at the place.
-fn field_in(heads: &[ClassHead], place: u32, member: &MemberName) -> Option<usize>
-    ensures { result ≡ rule.field_in heads.now member.now place }
+fn field_in(heads: &[ClassHead], place: u32, name: &[u8], descriptor: &[u8]) -> Option<usize>
+    ensures { result ≡ rule.field_in heads.now (member_named name.now descriptor.now) place }
 {
     match heads.get(place as usize) {
-        Some(head) => field_position(head.fields.as_slice(), member),
+        Some(head) => field_position(head.fields.as_slice(), name, descriptor),
         None => None,
     }
 }
 
 /// The position of the method in the class at the place.
-pub(crate) fn method_in(heads: &[ClassHead], place: u32, member: &MemberName) -> Option<usize>
-    ensures { result ≡ rule.method_in heads.now member.now place }
+pub(crate) fn method_in(
+    heads: &[ClassHead],
+    place: u32,
+    name: &[u8],
+    descriptor: &[u8],
+) -> Option<usize>
+    ensures { result ≡ rule.method_in heads.now (member_named name.now descriptor.now) place }
 {
     match heads.get(place as usize) {
-        Some(head) => method_position(head.methods.as_slice(), member),
+        Some(head) => method_position(head.methods.as_slice(), name, descriptor),
         None => None,
     }
 }
@@ -69,11 +74,16 @@ fn is_interface_at(heads: &[ClassHead], place: u32) -> bool
 }
 
 /// The field in the first of the classes that has it.
-pub(crate) fn first_field(heads: &[ClassHead], places: &[u32], member: &MemberName) -> Option<Found>
-    ensures { option_map member_place result ≡ rule.first_found (rule.field_in heads.now member.now) places.now }
+pub(crate) fn first_field(
+    heads: &[ClassHead],
+    places: &[u32],
+    name: &[u8],
+    descriptor: &[u8],
+) -> Option<Found>
+    ensures { option_map member_place result ≡ rule.first_found (rule.field_in heads.now (member_named name.now descriptor.now)) places.now }
 {
     for place in places {
-        if let Some(position) = field_in(heads, *place, member) {
+        if let Some(position) = field_in(heads, *place, name, descriptor) {
             return Some(Found {
                 class: *place,
                 position,
@@ -87,15 +97,16 @@ pub(crate) fn first_field(heads: &[ClassHead], places: &[u32], member: &MemberNa
 pub(crate) fn first_in_interfaces(
     heads: &[ClassHead],
     places: &[u32],
-    member: &MemberName,
+    name: &[u8],
+    descriptor: &[u8],
 ) -> Option<Found>
-    ensures { option_map member_place result ≡ rule.first_found (rule.method_in heads.now member.now) (filter (rule.is_interface_at heads.now) places.now) }
+    ensures { option_map member_place result ≡ rule.first_found (rule.method_in heads.now (member_named name.now descriptor.now)) (filter (rule.is_interface_at heads.now) places.now) }
 {
     for place in places {
         if !is_interface_at(heads, *place) {
             continue;
         }
-        if let Some(position) = method_in(heads, *place, member) {
+        if let Some(position) = method_in(heads, *place, name, descriptor) {
             return Some(Found {
                 class: *place,
                 position,
@@ -113,11 +124,16 @@ fn is_selectable(method: &MethodHead) -> bool
 
 /// The position of the class's first method of the name and descriptor, where that one is neither
 /// static nor private.
-pub(crate) fn selectable_in(heads: &[ClassHead], place: u32, member: &MemberName) -> Option<usize>
-    ensures { result ≡ rule.selectable_in heads.now member.now place }
+pub(crate) fn selectable_in(
+    heads: &[ClassHead],
+    place: u32,
+    name: &[u8],
+    descriptor: &[u8],
+) -> Option<usize>
+    ensures { result ≡ rule.selectable_in heads.now (member_named name.now descriptor.now) place }
 {
     let head = heads.get(place as usize)?;
-    let position = method_position(head.methods.as_slice(), member)?;
+    let position = method_position(head.methods.as_slice(), name, descriptor)?;
     let method = head.methods.get(position)?;
     if is_selectable(method) {
         Some(position)

@@ -1,7 +1,7 @@
 //! What is asked of a world.
 
 use crate::World;
-use crate::lookups::members::first_field;
+use crate::lookups::members::{Found, first_field, method_in};
 use crate::lookups::naming::find_named;
 use crate::lookups::numbers::{member_of, number_of};
 use crate::lookups::places::place_of;
@@ -18,6 +18,7 @@ impl World {
     ghost use Rattle.class_heads.specs.Hierarchy.{place_of};
     ghost use Rattle.class_heads.specs.Searches as rule;
     ghost use Rattle.class_heads.specs.Numbers.{number_of, field_counts, method_counts, IsNumbered};
+    ghost use Rattle.class_world.specs.Found.{member_named};
 
     /// How many classes there are.
     pub fn classes(&self) -> u32
@@ -31,11 +32,15 @@ impl World {
         ensures place { option_map (λ class. class.0) result ≡ place_of self.now.heads name.now }
         ensures within { IfSome result (λ class. class.0 < length self.now.heads) }
     {
-        let place = place_of(
-            self.heads.as_slice(),
-            self.names.as_slice(),
-            name.as_slice(),
-        )?;
+        self.class_named(name.as_slice())
+    }
+
+    /// The class of that name, by its bytes.
+    pub fn class_named(&self, name: &[u8]) -> Option<ClassId>
+        ensures place { option_map (λ class. class.0) result ≡ place_of self.now.heads name.now }
+        ensures within { IfSome result (λ class. class.0 < length self.now.heads) }
+    {
+        let place = place_of(self.heads.as_slice(), self.names.as_slice(), name)?;
         Some(ClassId(place))
     }
 
@@ -61,8 +66,23 @@ impl World {
         ensures number { option_map (λ field. field.0) result ≡ option_map (number_of (field_counts self.now.heads)) (rule.find_field self.now.heads class.0 member.now) }
         ensures within { IfSome result (λ field. field.0 < sum (field_counts self.now.heads)) }
     {
+        self.find_field_named(class, member.name.as_slice(), member.descriptor.as_slice())
+    }
+
+    /// The field that a search from the class finds, by the bytes of its name and descriptor (JVMS
+    /// 5.4.3.2).
+    pub fn find_field_named(
+        &self,
+        class: ClassId,
+        name: &[u8],
+        descriptor: &[u8],
+    ) -> Option<FieldId>
+        requires { class.0 < length self.now.heads }
+        ensures number { option_map (λ field. field.0) result ≡ option_map (number_of (field_counts self.now.heads)) (rule.find_field self.now.heads class.0 (member_named name.now descriptor.now)) }
+        ensures within { IfSome result (λ field. field.0 < sum (field_counts self.now.heads)) }
+    {
         let table = self.supers[class.0 as usize].as_slice();
-        let found = first_field(self.heads.as_slice(), table, member)?;
+        let found = first_field(self.heads.as_slice(), table, name, descriptor)?;
         Some(FieldId(number_of(self.first_fields.as_slice(), found)))
     }
 
@@ -73,14 +93,49 @@ impl World {
         ensures number { option_map (λ method. method.0) result ≡ option_map (number_of (method_counts self.now.heads)) (rule.find_method self.now.heads class.0 member.now) }
         ensures within { IfSome result (λ method. method.0 < sum (method_counts self.now.heads)) }
     {
+        self.find_method_named(class, member.name.as_slice(), member.descriptor.as_slice())
+    }
+
+    /// The method that a search from the class finds, by the bytes of its name and descriptor (JVMS
+    /// 5.4.3.3, 5.4.3.4).
+    pub fn find_method_named(
+        &self,
+        class: ClassId,
+        name: &[u8],
+        descriptor: &[u8],
+    ) -> Option<MethodId>
+        requires { class.0 < length self.now.heads }
+        ensures number { option_map (λ method. method.0) result ≡ option_map (number_of (method_counts self.now.heads)) (rule.find_method self.now.heads class.0 (member_named name.now descriptor.now)) }
+        ensures within { IfSome result (λ method. method.0 < sum (method_counts self.now.heads)) }
+    {
         let table = self.supers[class.0 as usize].as_slice();
         let found = upward::find_method(
             self.heads.as_slice(),
             self.names.as_slice(),
             table,
             class.0,
-            member,
+            name,
+            descriptor,
         )?;
+        Some(MethodId(number_of(self.first_methods.as_slice(), found)))
+    }
+
+    /// The first method of the name and descriptor that the class itself declares.
+    pub fn declared_method(
+        &self,
+        class: ClassId,
+        name: &[u8],
+        descriptor: &[u8],
+    ) -> Option<MethodId>
+        requires { class.0 < length self.now.heads }
+        ensures number { option_map (λ method. method.0) result ≡ option_map (λ position. number_of (method_counts self.now.heads) (rule.in_class class.0 position)) (rule.method_in self.now.heads (member_named name.now descriptor.now) class.0) }
+        ensures within { IfSome result (λ method. method.0 < sum (method_counts self.now.heads)) }
+    {
+        let position = method_in(self.heads.as_slice(), class.0, name, descriptor)?;
+        let found = Found {
+            class: class.0,
+            position,
+        };
         Some(MethodId(number_of(self.first_methods.as_slice(), found)))
     }
 

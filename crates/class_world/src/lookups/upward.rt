@@ -5,11 +5,10 @@ ghost use Rattle.std.specs.Option.{option_map};
 ghost use Rattle.class_heads.specs.Searches as rule;
 ghost use Rattle.class_heads.specs.Hierarchy as classes;
 ghost use Rattle.class_world.specs.Names.{IsNameOrder};
-ghost use Rattle.class_world.specs.Found.{member_place, wanted_in};
+ghost use Rattle.class_world.specs.Found.{member_place, member_named, wanted_in};
 
 use crate::lookups::members::{Found, first_in_interfaces, method_in, selectable_in};
 use crate::lookups::places::superclass_of;
-use aj_names::MemberName;
 use class_heads::{ClassHead, MethodHead};
 
 /// Which methods a search from a class upward takes.
@@ -21,12 +20,18 @@ pub(crate) enum Wanted {
     Selectable,
 }
 
-fn wanted_in(heads: &[ClassHead], place: u32, wanted: Wanted, member: &MemberName) -> Option<usize>
-    ensures { result ≡ wanted_in heads.now wanted member.now place }
+fn wanted_in(
+    heads: &[ClassHead],
+    place: u32,
+    wanted: Wanted,
+    name: &[u8],
+    descriptor: &[u8],
+) -> Option<usize>
+    ensures { result ≡ wanted_in heads.now wanted (member_named name.now descriptor.now) place }
 {
     match wanted {
-        Wanted::Declared => method_in(heads, place, member),
-        Wanted::Selectable => selectable_in(heads, place, member),
+        Wanted::Declared => method_in(heads, place, name, descriptor),
+        Wanted::Selectable => selectable_in(heads, place, name, descriptor),
     }
 }
 
@@ -36,17 +41,18 @@ pub(crate) fn first_upward(
     names: &[u32],
     class: u32,
     wanted: Wanted,
-    member: &MemberName,
+    name: &[u8],
+    descriptor: &[u8],
 ) -> Option<Found>
     requires { IsNameOrder heads.now names.now }
-    ensures { option_map member_place result ≡ rule.first_found (wanted_in heads.now wanted member.now) (classes.superclasses heads.now class) }
+    ensures { option_map member_place result ≡ rule.first_found (wanted_in heads.now wanted (member_named name.now descriptor.now)) (classes.superclasses heads.now class) }
 {
     let mut at = Some(class);
     for _turn in 0..heads.len() {
         let Some(place) = at else {
             return None;
         };
-        if let Some(position) = wanted_in(heads, place, wanted, member) {
+        if let Some(position) = wanted_in(heads, place, wanted, name, descriptor) {
             return Some(Found {
                 class: place,
                 position,
@@ -64,15 +70,16 @@ pub(crate) fn find_method(
     names: &[u32],
     supertypes: &[u32],
     class: u32,
-    member: &MemberName,
+    name: &[u8],
+    descriptor: &[u8],
 ) -> Option<Found>
     requires names { IsNameOrder heads.now names.now }
     requires supertypes { supertypes.now ≡ classes.supertypes heads.now class }
-    ensures { option_map member_place result ≡ rule.find_method heads.now class member.now }
+    ensures { option_map member_place result ≡ rule.find_method heads.now class (member_named name.now descriptor.now) }
 {
-    match first_upward(heads, names, class, Wanted::Declared, member) {
+    match first_upward(heads, names, class, Wanted::Declared, name, descriptor) {
         Some(found) => Some(found),
-        None => first_in_interfaces(heads, supertypes, member),
+        None => first_in_interfaces(heads, supertypes, name, descriptor),
     }
 }
 
@@ -99,6 +106,8 @@ pub(crate) fn select(
     if method.flags.0 & 0x0002 == 0x0002 {
         Some(found)
     } else {
-        first_upward(heads, names, runtime, Wanted::Selectable, &method.name)
+        let name = method.name.name.as_slice();
+        let descriptor = method.name.descriptor.as_slice();
+        first_upward(heads, names, runtime, Wanted::Selectable, name, descriptor)
     }
 }

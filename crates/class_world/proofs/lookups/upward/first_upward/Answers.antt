@@ -2,20 +2,20 @@ use Rattle.std.proofs.Common.{◌≡◌, ℕ, suc, ◌+◌, ◌-◌, length, ari
 use Rattle.std.specs.Prelude.{Option, Some}
 use Rattle.class_heads.specs.Hierarchy.{superclass_at}
 use Rattle.class_heads.specs.Searches.{first_found}
-use Rattle.class_world.specs.Found.{wanted_in}
+use Rattle.class_world.specs.Found.{member_named, wanted_in}
 use Rattle.class_world.proofs.Upward.{walk_from, up_found, up_next, up_none}
 use Rattle.class_world.proofs.lookups.upward.first_upward.Goals as goal
 
 pub returns-in_default : goal.returns-in_default
 returns-in_default c =
-    let search = wanted_in c.args.heads.now c.args.wanted c.args.member.now in
+    let search = wanted_in c.args.heads.now c.args.wanted (member_named c.args.name.now c.args.descriptor.now) in
     let steps = superclass_at c.args.heads.now in
     let most = length c.args.heads.now - c.loop-turn._turn in
     subst (λ (at : Option ℕ). first_found search (walk_from steps most at) ≡ first_found search (walk_from steps (length c.args.heads.now) (Some c.args.class))) c.in_default.is c.loop-turn.invariant
 
 pub returns-in-Some-wanted_in : goal.returns-in-Some-wanted_in
 returns-in-Some-wanted_in c =
-    let search = wanted_in c.args.heads.now c.args.wanted c.args.member.now in
+    let search = wanted_in c.args.heads.now c.args.wanted (member_named c.args.name.now c.args.descriptor.now) in
     let steps = superclass_at c.args.heads.now in
     let left = length c.args.heads.now - (c.loop-turn._turn + 1) in
     let more : length c.args.heads.now - c.loop-turn._turn ≡ suc left = omega arith in
@@ -25,7 +25,7 @@ returns-in-Some-wanted_in c =
 
 pub loop-turn-preserved : goal.loop-turn-preserved
 loop-turn-preserved c =
-    let search = wanted_in c.args.heads.now c.args.wanted c.args.member.now in
+    let search = wanted_in c.args.heads.now c.args.wanted (member_named c.args.name.now c.args.descriptor.now) in
     let steps = superclass_at c.args.heads.now in
     let left = length c.args.heads.now - (c.loop-turn._turn + 1) in
     let more : length c.args.heads.now - c.loop-turn._turn ≡ suc left = omega arith in
@@ -35,7 +35,7 @@ loop-turn-preserved c =
 
 pub returns : goal.returns
 returns c =
-    let search = wanted_in c.args.heads.now c.args.wanted c.args.member.now in
+    let search = wanted_in c.args.heads.now c.args.wanted (member_named c.args.name.now c.args.descriptor.now) in
     let steps = superclass_at c.args.heads.now in
     let none : length c.args.heads.now - c.loop-turn._turn ≡ 0 = omega arith in
     let counted = subst (λ (most : ℕ). first_found search (walk_from steps most c.loop-turn.at) ≡ first_found search (walk_from steps (length c.args.heads.now) (Some c.args.class))) none c.loop-turn.invariant in

@@ -1,0 +1,6 @@
+pub mod Numbered
+pub mod KeyTargets
+pub mod ByNames
+pub mod Formed
+pub mod Finding
+pub mod Handled
