@@ -2,3 +2,4 @@ pub mod Names
 pub mod Lengths
 pub mod Steps
 pub mod Listing
+pub mod Walked

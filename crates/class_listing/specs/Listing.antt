@@ -1,5 +1,5 @@
 -- The listing of a class file: the lines of class text that say it (JVMS 4.1), and a line for each attribute that class text can't say.
-use Rattle.std.specs.Prelude.{ℕ, List, [], ◌∷◌, ◌++◌, map, codes, Option, Some, None}
+use Rattle.std.specs.Prelude.{List, [], ◌∷◌, ◌++◌, map, codes, Option, Some, None}
 use Rattle.std.specs.List.{flat_map}
 use Rattle.std.specs.Fmt.{decimal}
 use Rattle.class_file.specs.declared.pool.PoolEntry.{PoolEntry}

@@ -1,13 +1,13 @@
 //! The lines of a listing.
 
-ghost use Rattle.std.specs.Prelude.{◌≡◌, ◌++◌, ◌∷◌, [], OnOk};
+ghost use Rattle.std.specs.Prelude.{◌≡◌, ◌++◌, ◌∷◌, [], IfOk, OnOk};
 ghost use Rattle.class_lines.specs.Printing.{spaced};
-ghost use Rattle.class_listing.specs.Listing.{listed_text};
+ghost use Rattle.class_listing.specs.Listing.{listed_text, listing_text};
 
 use aj_names::ByteString;
 use class_lines::{Line, put_line};
 use itoa::Buffer;
-use std::alloc::AllocError;
+use std::alloc::{AllocError, Global};
 
 /// A line of a listing.
 #[derive(Debug, Drop)]
@@ -49,4 +49,15 @@ fn put_ended(out: &mut Vec<u8>, listed: &Listed) -> Result<(), AllocError>
     put_listed(out, listed)?;
     out.push(b'\n')?;
     Ok(())
+}
+
+/// The text of a listing.
+pub(crate) fn text_of(alloc: Global, listing: &[Listed]) -> Result<Vec<u8>, AllocError>
+    ensures { IfOk result (λ text. text.items ≡ listing_text listing.now) }
+{
+    let mut out = Vec::new(alloc);
+    for listed in listing {
+        put_ended(&mut out, listed)?;
+    }
+    Ok(out)
 }
