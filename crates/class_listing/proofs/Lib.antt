@@ -1,0 +1,4 @@
+pub mod Numbered
+pub mod Walking
+pub mod Marking
+pub mod Lists

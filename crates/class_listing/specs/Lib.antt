@@ -1,0 +1,5 @@
+pub mod Names
+pub mod Lengths
+pub mod Steps
+pub mod Listing
+pub mod Walked
