@@ -13,3 +13,4 @@ pub mod HeadsRead
 pub mod OperationsRead
 pub mod LinesRead
 pub mod FormRead
+pub mod LineForms

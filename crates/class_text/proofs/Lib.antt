@@ -3,3 +3,14 @@ pub mod LineLists
 pub mod Front
 pub mod MakingLists
 pub mod Three
+pub mod Utf8
+pub mod Numbers
+pub mod Insns
+pub mod Switches
+pub mod Pools
+pub mod Made
+pub mod Steps
+pub mod CodeBytes
+pub mod Methods
+pub mod SoundMembers
+pub mod WellFormed

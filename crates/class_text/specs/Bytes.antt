@@ -1,7 +1,6 @@
 -- The bytes of an instruction (JVMS 6.4), with the index of its pool entry and the places of its labels.
-use Rattle.std.specs.Prelude.{ℕ, ◌+◌, ◌-◌, ◌==◌, min, Bool, true, false, not, ◌||◌, if◌then◌else◌, nat_le, nat_lt, List, [], ◌∷◌, ◌++◌, length, take, drop, Option, Some, None, ℤ, pos, ◌+ℤ◌, ◌-ℤ◌}
+use Rattle.std.specs.Prelude.{ℕ, ◌+◌, ◌==◌, min, Bool, true, false, ◌||◌, if◌then◌else◌, nat_lt, List, [], ◌∷◌, ◌++◌, length, take, drop, ℤ, pos, ◌+ℤ◌, ◌-ℤ◌}
 use Rattle.std.specs.List.{flat_map}
-use Rattle.opcode_table.specs.declared.form.Form.{Form}
 use Rattle.opcode_table.specs.Table.{form_of}
 use Rattle.opcode_table.specs.Spelling.{u2_bytes, s1_bytes, s2_bytes, s4_bytes, local_bytes, increment_bytes}
 use Rattle.class_lines.specs.declared.line.Operation.{Operation}

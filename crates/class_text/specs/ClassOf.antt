@@ -1,5 +1,5 @@
 -- The class that a text is, or the number of the first line that isn't of the form.
-use Rattle.std.specs.Prelude.{◌≡◌, ℕ, ◌+◌, Bool, nat_lt, if◌then◌else◌, List, [], ◌∷◌, ◌++◌, length, min, codes, Option, Some, None, Result, Ok, Err, refl}
+use Rattle.std.specs.Prelude.{ℕ, ◌+◌, nat_lt, List, [], length, min, Option, Some, None, Result, Ok, Err}
 use Rattle.std.specs.List.{take_while}
 use Rattle.class_file.specs.declared.types.ClassFile.{ClassFile}
 use Rattle.class_lines.specs.Words.{Text}

@@ -1,17 +1,14 @@
 -- A class, from its lines (JVMS 4.1). The entries of its pool are made as the class file is read from this class to its end.
-use Rattle.std.specs.Prelude.{ℕ, zero, suc, ◌+◌, ◌==◌, Bool, true, false, ◌&&◌, nat_le, nat_lt, if◌then◌else◌, List, [], ◌∷◌, ◌++◌, length, codes, Option, Some, None, Result, Ok, Err}
+use Rattle.std.specs.Prelude.{ℕ, ◌+◌, Bool, true, nat_le, nat_lt, if◌then◌else◌, List, [], ◌∷◌, ◌++◌, length, codes, Option, Some, None, Result, Ok, Err}
 use Rattle.std.specs.List.{cons_option}
-use Rattle.class_file.specs.declared.access.AccessFlags.{AccessFlags}
 use Rattle.class_file.specs.declared.pool.PoolEntry.{PoolEntry}
 use Rattle.class_file.specs.declared.types.ClassFile.{ClassFile}
 use Rattle.class_file.specs.declared.types.Member.{Member}
 use Rattle.class_file.specs.declared.types.Attribute.{Attribute}
 use Rattle.class_file.specs.declared.types.Content.TheVariants as content
-use Rattle.class_file.specs.declared.types.CodeAttr.{CodeAttr}
 use Rattle.class_file.specs.declared.types.ExceptionEntry.{ExceptionEntry}
 use Rattle.class_lines.specs.declared.line.Line.{Line}
 use Rattle.class_lines.specs.declared.line.MemberHead.{MemberHead}
-use Rattle.class_lines.specs.declared.line.Operation.{Operation}
 use Rattle.class_lines.specs.Words.{Text}
 use Rattle.class_text.specs.declared.numbered.Numbered.{Numbered}
 use Rattle.class_text.specs.Gives.{◌>>=◌, Making}

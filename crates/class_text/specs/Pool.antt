@@ -1,5 +1,5 @@
 -- The entries of the pool that a line needs, made in order of first use, operands before the entry that names them (JVMS 4.4).
-use Rattle.std.specs.Prelude.{ℕ, ◌+◌, ◌==◌, Bool, true, false, ◌&&◌, ◌||◌, nat_le, nat_lt, if◌then◌else◌, List, [], ◌∷◌, length, Result, Ok, Err}
+use Rattle.std.specs.Prelude.{ℕ, ◌==◌, Bool, ◌&&◌, ◌||◌, nat_le, nat_lt, if◌then◌else◌, List, length, Ok, Err}
 use Rattle.class_file.specs.declared.pool.PoolEntry.{PoolEntry}
 use Rattle.class_file.specs.declared.pool.PoolEntry.TheVariants as entry
 use Rattle.class_lines.specs.declared.line.Operation.{Operation}

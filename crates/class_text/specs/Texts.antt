@@ -1,5 +1,5 @@
 -- The lines of a text, and what each says.
-use Rattle.std.specs.Prelude.{◌≡◌, ℕ, ◌+◌, ◌==◌, Bool, not, if◌then◌else◌, List, [], ◌∷◌, length, codes, Option, Some, None, refl}
+use Rattle.std.specs.Prelude.{◌≡◌, ℕ, ◌+◌, ◌==◌, Bool, not, if◌then◌else◌, List, [], ◌∷◌, codes, Option, Some, None, refl}
 use Rattle.std.specs.List.{cons_option}
 use Rattle.class_lines.specs.declared.line.Line.{Line}
 use Rattle.class_lines.specs.Words.{Text}

@@ -1,7 +1,8 @@
 //! A text, read as a class.
 
-ghost use Rattle.std.specs.Prelude.{◌≡◌, ◌≤◌, length, nat_lt, Some, Err};
+ghost use Rattle.std.specs.Prelude.{◌≡◌, ◌≤◌, true, length, nat_lt, Some, Err, IfOk};
 ghost use Rattle.std.specs.List.{take_while};
+ghost use Rattle.class_file.specs.WellFormed.{is_well_formed};
 ghost use Rattle.class_text.specs.declared.numbered.Numbered.{Numbered};
 ghost use Rattle.class_text.specs.Gives.{Gives};
 ghost use Rattle.class_text.specs.ClassOf as rule;
@@ -53,6 +54,18 @@ fn refusal(alloc: Global, number: usize, lines: &[Numbered]) -> TextFault
     }
 }
 
+/// The class of a text.
+fn class_of_text(alloc: Global, text: &[u8]) -> Result<ClassFile, TextFault>
+    ensures { Gives result (rule.class_of text.now) }
+{
+    let listing = listing_of(alloc, text)?;
+    let lines = listing.lines.as_slice();
+    match first_of(misplaced(listing.last, lines), mislabelled(lines)) {
+        Some(number) => Err(refusal(alloc, number, lines)),
+        None => class_of(alloc, 1, lines),
+    }
+}
+
 /// The class file that a text in UTF-8 is. A class line stands first, and then lines of fields and methods in
 /// any order; behind that of a method with code stand lines of instructions and of the exception
 /// table, in any order too, and `end`. The pool's entries are made in order of first use, operands
@@ -67,12 +80,11 @@ fn refusal(alloc: Global, number: usize, lines: &[Numbered]) -> TextFault
 /// without instructions, or that passes another number of the format (JVMS 4.1). A text that lacks its
 /// class line or an `end` at its end has the line behind its last as this one. `Memory`.
 pub fn to_class(alloc: Global, text: &[u8]) -> Result<ClassFile, TextFault>
+    // What is answered is what the text is, unless memory runs out.
     ensures exact { Gives result (rule.class_of text.now) }
+    // A class that is answered is a well-formed class file: it can be written, each index of it stands
+    // for what it may, and its code has no fault.
+    ensures well_formed { IfOk result (λ class. is_well_formed class ≡ true) }
 {
-    let listing = listing_of(alloc, text)?;
-    let lines = listing.lines.as_slice();
-    match first_of(misplaced(listing.last, lines), mislabelled(lines)) {
-        Some(number) => Err(refusal(alloc, number, lines)),
-        None => class_of(alloc, 1, lines),
-    }
+    class_of_text(alloc, text)
 }

@@ -1,5 +1,5 @@
-use Rattle.std.proofs.Common.{◌≢◌, [], List, ℕ, rules, arith}
-use Rattle.class_text.proofs.LineLists.{Listed, listing_goes_on, shorter_behind}
+use Rattle.std.proofs.Common.{rules}
+use Rattle.class_text.proofs.LineLists.{listing_goes_on, shorter_behind}
 use Rattle.class_text.proofs.numbered.listing_of.Goals as goal
 
 pub loop-rest-smaller : goal.loop-rest-smaller

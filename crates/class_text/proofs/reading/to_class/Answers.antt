@@ -1,0 +1,5 @@
+use Rattle.class_text.proofs.WellFormed.{given_well_formed}
+use Rattle.class_text.proofs.reading.to_class.Goals as goal
+
+pub returns : goal.returns
+returns c = record { exact = c.class_of_text.ensures; well_formed = given_well_formed c.class_of_text.result c.args.text.now c.class_of_text.ensures }
