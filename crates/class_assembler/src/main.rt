@@ -2,10 +2,8 @@
 //! classes of `demo/` that no compiler makes are made by it.
 #![tactic(auto)]
 
-ghost use Rattle.std.specs.Prelude.{◌≡◌, Err, MatchResult, Ok};
-ghost use Rattle.class_file.specs.Spelling.{spelling};
-ghost use Rattle.class_text.specs.ClassOf.{class_of};
-ghost use Rattle.class_text.specs.declared.fault.TextFault.TheVariants.{Line, Memory};
+ghost use Rattle.std.specs.Prelude.{◌≡◌, Ok, IfOk, IfErr};
+ghost use Rattle.class_assembler.specs.Assembling.{assembled, Refuses};
 
 use class_format::write_class;
 use class_text::{TextFault, to_class};
@@ -14,7 +12,11 @@ use std::io::{self, Read, Write};
 use std::process::ExitCode;
 
 /// The bytes of the class file that a text is (JVMS 4.1).
-fn assemble(alloc: Global, text: &[u8]) -> Result<Vec<u8>, TextFault> {
+#[tactic(auto, using(crate::proofs::Writable::writable))]
+fn assemble(alloc: Global, text: &[u8]) -> Result<Vec<u8>, TextFault>
+    ensures bytes { IfOk result (λ v. assembled text.now ≡ Ok v.items) }
+    ensures refused { IfErr result (λ fault. Refuses fault (assembled text.now)) }
+{
     let class = to_class(alloc, text)?;
     Ok(write_class(alloc, &class)?)
 }
