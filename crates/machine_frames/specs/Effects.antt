@@ -55,7 +55,7 @@ setting f kind = record { room = f.operands.room; result = kind }
 
 -- the frame as it was, under the form, comes to the effect with the frame as it is
 pub record Does (n : Naming) (form : Form) (old new : Frame) (e : Effect) : Type 0 where
-  pub same : form (operands_of n old) (locals_of n old) ≡ effect_in n old.method.0 e (operands_of n new) (locals_of n new)
+  pub same : effect_in n old.method.0 e (operands_of n new) (locals_of n new) ≡ form (operands_of n old) (locals_of n old)
 
 -- all but the operands and what the locals hold
 pub record Keeps (old new : Frame) : Type 0 where
