@@ -16,12 +16,14 @@ pub struct Locals {
 }
 
 impl Model for Locals {
-    ghost use Rattle.std.specs.Prelude.{List};
+    ghost use Rattle.std.specs.Prelude.{List, ◌<◌, ◌^◌, length};
     ghost use Rattle.machine_values.specs.declared.values.Local.{Local as Kept};
 
     ghost Value = { List Kept };
 
     ghost view = { λ l. l.items.items };
+
+    ghost invariant = { λ l. length l.items.items < 2 ^ 16 };
 }
 
 impl Locals {
@@ -32,6 +34,13 @@ impl Locals {
         let unset = vec![in alloc; Local::Unset; count as usize]?;
         let items = SmallVec::from_slice(alloc, unset.as_slice())?;
         Ok(Locals { items })
+    }
+
+    /// How many there are.
+    pub fn len(&self) -> u16
+        ensures { result ≡ length self.now }
+    {
+        self.items.as_slice().len() as u16
     }
 
     /// The locals, in their order.

@@ -1,6 +1,6 @@
 //! The operands of a frame.
 
-ghost use Rattle.std.specs.Prelude.{◌≡◌, ◌+◌, [], ◌∷◌, nat_le, MatchOption, IfOk};
+ghost use Rattle.std.specs.Prelude.{◌≡◌, ◌+◌, [], ◌∷◌, reverse, nat_le, MatchOption, IfOk};
 ghost use Rattle.std.specs.Bool.{MatchBool};
 ghost use Rattle.machine_values.specs.Stacks.{is_wide, width, weight, Pushes, Overflows};
 
@@ -84,6 +84,13 @@ impl Operands {
         let value = self.items.pop()?;
         self.slots -= value.width();
         Some(value)
+    }
+
+    /// The values, the last pushed last.
+    pub fn as_slice(&self) -> &[Value]
+        ensures { self.now.values ≡ reverse result.now }
+    {
+        self.items.as_slice()
     }
 
     /// Whether there is room for so many slots more.

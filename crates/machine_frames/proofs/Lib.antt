@@ -1,0 +1,11 @@
+pub mod Pushing
+pub mod Kinded
+pub mod Stored
+pub mod Same
+pub mod Known
+pub mod Steps
+pub mod Branches
+pub mod Arguments
+pub mod Fresh
+pub mod Sizing
+pub mod Fitting

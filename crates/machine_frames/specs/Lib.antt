@@ -1,0 +1,10 @@
+pub mod Naming
+pub mod Effects
+pub mod Operands
+pub mod Kinds
+pub mod Locals
+pub mod Named
+pub mod Calls
+pub mod Tokens
+pub mod Sizes
+pub mod Peeks
