@@ -17,6 +17,7 @@ mod words;
 
 pub use fault::LineFault;
 pub use line::{Case, Constant, Line, MemberHead, Operation};
+pub use operations::is_class_constant;
 pub use printing::put_line;
 pub use reading::read_line;
 pub use text::read_text_line;

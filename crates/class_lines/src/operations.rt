@@ -8,6 +8,7 @@ ghost use Rattle.class_lines.specs.declared.line.Constant.{Constant};
 ghost use Rattle.class_lines.specs.declared.line.Operation.{Operation};
 ghost use Rattle.class_lines.specs.Fields.{run_of, behind_run};
 ghost use Rattle.class_lines.specs.Words.{GivesAs, Gives, texts, with_texts};
+ghost use Rattle.class_lines.specs.Lines.{is_constant};
 ghost use Rattle.class_lines.specs.Operations.{op_named, byte_at, short_at, local_at, increment_at, array_code_at, behind, float_of, double_of, class_constant, constant_of, constant_at, wide_constant_at, member_at, type_at, dimensions_at, pool_at, branch_at, default_at, cases_at, table_at, label_behind, case_of, is_key_byte, cases_above, lookup_at, by_form, operation_at};
 
 use crate::fault::LineFault;
@@ -150,6 +151,16 @@ fn class_constant(alloc: Global, text: &[u8]) -> Result<Constant, LineFault>
     } else {
         Err(LineFault::Form)
     }
+}
+
+/// Whether `ldc` and `ldc_w` may name the class: its name is that of a class or an array type, and no int
+/// or float is written so.
+pub fn is_class_constant(name: &[u8]) -> bool
+    ensures { result ≡ is_constant (Constant.Class name.now) }
+{
+    WordKind::TypeName.fits(name)
+        && integer(0x7fff_ffff, name).is_none()
+        && float_bits(name).is_none()
 }
 
 /// An int, else a float, else a class.

@@ -3,3 +3,4 @@ pub mod Lengths
 pub mod Steps
 pub mod Listing
 pub mod Walked
+pub mod Examples

@@ -16,6 +16,7 @@ use Rattle.class_lines.specs.declared.line.Operation.{Operation}
 use Rattle.class_lines.specs.declared.line.Constant.{Constant}
 use Rattle.class_lines.specs.declared.line.Case.{Case}
 use Rattle.class_lines.specs.Words.{Text}
+use Rattle.class_lines.specs.Lines.{is_constant}
 use Rattle.class_listing.specs.Names.{shown, text_shown, class_shown, caught, interface_method_at, label}
 
 -- ---- what a pool entry is written as
@@ -27,12 +28,16 @@ abbrev pub string_constant : Option Text → Constant
 string_constant None = no_constant
 string_constant (Some text) = Constant.Text text
 
+-- a class, unless its name is written as another constant is
+abbrev pub class_constant : Text → Constant
+class_constant name = if is_constant (Constant.Class name) then Constant.Class name else no_constant
+
 -- What `ldc` and `ldc_w` push. What they can't push is written as a class without a name.
 abbrev pub constant_of : List PoolEntry → Option PoolEntry → Constant
 constant_of pool (Some (entry.Integer n)) = Constant.Int n
 constant_of pool (Some (entry.Float bits)) = Constant.Float bits
 constant_of pool (Some (entry.String text)) = string_constant (text_at pool text)
-constant_of pool (Some (entry.Class name)) = Constant.Class (text_shown pool name)
+constant_of pool (Some (entry.Class name)) = class_constant (text_shown pool name)
 constant_of pool _ = no_constant
 
 -- what `ldc2_w`, 20, pushes

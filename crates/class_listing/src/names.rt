@@ -62,6 +62,17 @@ pub(crate) fn class_shown(
     shown(alloc, class_at(pool, index))
 }
 
+/// A class that is caught, unless its name is `any`.
+fn caught_name(alloc: Global, name: ByteString) -> Result<ByteString, AllocError>
+    ensures { IfOk result (λ word. word ≡ rule.caught_name name) }
+{
+    if name.as_slice() == b"any".as_slice() {
+        shown(alloc, None)
+    } else {
+        Ok(name)
+    }
+}
+
 /// The name of the class that is caught, or nothing for any.
 pub(crate) fn caught(
     alloc: Global,
@@ -73,7 +84,8 @@ pub(crate) fn caught(
     if index == 0 {
         Ok(None)
     } else {
-        Ok(Some(class_shown(alloc, pool, index)?))
+        let name = class_shown(alloc, pool, index)?;
+        Ok(Some(caught_name(alloc, name)?))
     }
 }
 

@@ -11,7 +11,7 @@ ghost use Rattle.class_listing.specs.Steps as rule;
 use crate::names::{class_shown, interface_method_at, label, shown, text_shown};
 use aj_names::ByteString;
 use class_file::{PoolEntry, Reference, entry_at, field_at, method_at, text_at};
-use class_lines::{Case, Constant, Operation};
+use class_lines::{Case, Constant, Operation, is_class_constant};
 use opcode_table::{
     Insn, pair_count, pair_key, pair_offset, switch_default, table_count, table_low, table_offset,
 };
@@ -51,6 +51,17 @@ fn string_constant(alloc: Global, pool: &[PoolEntry], index: u16) -> Result<Cons
     }
 }
 
+/// A class, unless its name is written as another constant is.
+fn class_constant(alloc: Global, name: ByteString) -> Result<Constant, AllocError>
+    ensures { IfOk result (λ constant. constant ≡ rule.class_constant name) }
+{
+    if is_class_constant(name.as_slice()) {
+        Ok(Constant::Class(name))
+    } else {
+        no_constant(alloc)
+    }
+}
+
 /// What `ldc` and `ldc_w` push (JVMS 6.4).
 fn constant(alloc: Global, pool: &[PoolEntry], index: u16) -> Result<Constant, AllocError>
     ensures { IfOk result (λ constant. constant ≡ rule.constant_of pool.now (named.entry_at pool.now index)) }
@@ -59,7 +70,7 @@ fn constant(alloc: Global, pool: &[PoolEntry], index: u16) -> Result<Constant, A
         Some(PoolEntry::Integer(n)) => Ok(Constant::Int(*n)),
         Some(PoolEntry::Float(bits)) => Ok(Constant::Float(*bits)),
         Some(PoolEntry::String(text)) => string_constant(alloc, pool, *text),
-        Some(PoolEntry::Class(name)) => Ok(Constant::Class(text_shown(alloc, pool, *name)?)),
+        Some(PoolEntry::Class(name)) => class_constant(alloc, text_shown(alloc, pool, *name)?),
         _ => no_constant(alloc),
     }
 }
