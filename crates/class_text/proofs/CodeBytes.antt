@@ -15,7 +15,8 @@ use Rattle.class_text.specs.declared.numbered.Numbered.{Numbered}
 use Rattle.class_text.specs.Labels.{padding, place_of, distance, leads_well}
 use Rattle.class_lines.specs.Lines.{is_operation}
 use Rattle.class_text.specs.Bytes.{fitting, zeros, place_bytes, switch_bytes, table_bytes, case_bytes, cases_bytes, operation_bytes}
-use Rattle.class_text.proofs.Insns.{insn_of, HasIndex, AreNear, IsNoSwitch, operation_spelled}
+use Rattle.class_text.specs.Meaning.{insn_of}
+use Rattle.class_text.proofs.Insns.{HasIndex, AreNear, IsNoSwitch, operation_spelled}
 use Rattle.class_text.proofs.Steps.{Made, IsMade, bytes_of, indexed}
 
 each_byte : (bytes : List ℕ) → IsBytes bytes → are_bytes bytes ≡ true

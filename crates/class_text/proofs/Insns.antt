@@ -1,16 +1,15 @@
 -- The instruction of an operation (JVMS 6.4), and that the bytes of one that is no switch spell it.
-use Rattle.std.proofs.Common.{◌≡◌, ℕ, ◌^◌, ◌<◌, ◌≤◌, Bool, true, false, not, ◌&&◌, ◌||◌, List, [], ◌∷◌, ◌++◌, length, map, Option, Some, None, refl, sym, ap, subst, ◌∙◌, arith, inl, inr, ⊎_elim, ℤ}
+use Rattle.std.proofs.Common.{◌≡◌, ℕ, ◌^◌, ◌<◌, ◌≤◌, Bool, true, false, not, ◌&&◌, ◌||◌, List, [], ◌∷◌, ◌++◌, length, Option, Some, None, refl, sym, ap, subst, ◌∙◌, arith, inl, inr, ⊎_elim, ℤ}
 use Rattle.std.specs.Prelude.{if◌then◌else◌, ◌==◌, nat_lt, nat_le, min, is_some}
 use Rattle.std.proofs.lemmas.Bool.{and_parts, and_from, or_cases, or_right, leb-true, le-leb, ltb-true, ltb-false, lt-ltb, eqb-true, eqb-false, cases_Bool, cond-false}
 use Rattle.opcode_table.specs.declared.insn.Insn.{Insn}
 use Rattle.opcode_table.specs.declared.form.Form.{Form}
 use Rattle.opcode_table.specs.Table.{form_of, opcode}
-use Rattle.opcode_table.specs.Decoding.{each_below, table_place}
+use Rattle.opcode_table.specs.Decoding.{each_below}
 use Rattle.opcode_table.specs.Each.{at_each}
 use Rattle.opcode_table.specs.Spelling.{spelling, u2_bytes, s2_bytes, s4_bytes, local_bytes, increment_bytes, pool_bytes, branch_bytes, FitsLocal, FitsIncrement, FitsPool, FitsBranch, IsInsn, IsSingle}
 use Rattle.class_file.specs.Text.{within, dimensions}
 use Rattle.class_lines.specs.declared.line.Operation.{Operation}
-use Rattle.class_lines.specs.declared.line.Case.{Case}
 use Rattle.class_lines.specs.declared.line.Constant.{Constant}
 use Rattle.class_lines.specs.Words.{Text, fits}
 use Rattle.class_lines.specs.Lines.{is_integer, is_constant, of_form, has_form, is_plain_form, is_local_form, is_branch_form, is_class_op, is_operation}
@@ -20,37 +19,8 @@ use Rattle.class_text.specs.Labels.{is_wide_increment, is_wide_form, place_of, h
 use Rattle.class_text.specs.Bytes as bytes
 use Rattle.class_text.specs.Bytes.{argument_slots, operation_bytes, fitting}
 use Rattle.class_text.specs.Pool.{takes_few}
+use Rattle.class_text.specs.Meaning.{member_insn, insn_of}
 use Rattle.class_text.proofs.Numbers.{fits_1, fits_2, fits_4, fitting_is, way_is}
-
--- ---- which instruction
-
--- 185 calls an interface's method
-abbrev pub member_insn : ℕ → ℕ → Text → Insn
-member_insn op index descriptor = if op == 185 then Insn.Interface index (argument_slots descriptor) 0 else Insn.Pool op index
-
-abbrev pub insn_of : List Numbered → ℕ → ℕ → Operation → Insn
-insn_of body pc index (Operation.Plain op) = Insn.Plain op
-insn_of body pc index (Operation.Bipush value) = Insn.Bipush value
-insn_of body pc index (Operation.Sipush value) = Insn.Sipush value
-insn_of body pc index (Operation.Local op local) = Insn.Local op local (nat_lt 255 local)
-insn_of body pc index (Operation.Iinc local by) = Insn.Iinc local by (is_wide_increment local by)
-insn_of body pc index (Operation.Constant op constant) = Insn.Pool op index
-insn_of body pc index (Operation.Long n) = Insn.Pool 20 index
-insn_of body pc index (Operation.Double bits) = Insn.Pool 20 index
-insn_of body pc index (Operation.Member op class name descriptor) = member_insn op index descriptor
-insn_of body pc index (Operation.Class op class) = Insn.Pool op index
-insn_of body pc index (Operation.NewArray code) = Insn.NewArray code
-insn_of body pc index (Operation.Multi class dims) = Insn.Multi index dims
-insn_of body pc index (Operation.Branch op to) = Insn.Branch op (distance pc (place_of to 0 body))
-insn_of body pc index (Operation.TableSwitch low labels default) = Insn.TableSwitch (table_place pc)
-insn_of body pc index (Operation.LookupSwitch cases default) = Insn.LookupSwitch (table_place pc)
-
--- the labels that an instruction may lead to: of a switch the default first
-abbrev pub labels_of : Operation → List Text
-labels_of (Operation.Branch op to) = to ∷ []
-labels_of (Operation.TableSwitch low labels default) = default ∷ labels
-labels_of (Operation.LookupSwitch cases default) = default ∷ map (λ (c : Case). c.label) cases
-labels_of _ = []
 
 -- the index, of two bytes, and of one where the instruction has one; a call of an interface's method counts few slots
 abbrev pub HasIndex : ℕ → Operation → Type 0

@@ -6,7 +6,7 @@ use Rattle.opcode_table.specs.declared.insn.Insn.{Insn}
 use Rattle.class_file.specs.declared.pool.PoolEntry.{PoolEntry}
 use Rattle.class_file.specs.declared.pool.PoolEntry.TheVariants as entry
 use Rattle.class_file.specs.Text.{within, dimensions, is_utf8, is_internal_name, is_field_descriptor, is_method_descriptor}
-use Rattle.class_file.specs.Pool.{Reference, entry_at, text_at, as_class, class_at, as_string, string_at, referred, as_field, as_method}
+use Rattle.class_file.specs.Pool.{Reference, entry_at, text_at, as_class, class_at, as_string, string_at, as_field, as_method}
 use Rattle.class_file.specs.Sound.{is_some_that}
 use Rattle.class_file.specs.Code.{is_narrow_constant, is_wide_constant, is_field_entry, is_method_entry, is_interface_entry, is_class_entry, is_element_name, has_dimensions, has_operand}
 use Rattle.class_lines.specs.declared.line.Operation.{Operation}
@@ -23,7 +23,8 @@ use Rattle.class_text.specs.declared.numbered.Numbered.{Numbered}
 use Rattle.class_text.specs.Gives.{◌>>=◌, Making}
 use Rattle.class_text.specs.Pool.{within_pool, with_short, text_made, class_made, field_made, method_made, are_short, takes_few, member_made, constant_made, within_byte, pushed_made, index_made}
 use Rattle.class_text.proofs.Numbers.{int_is, long_is}
-use Rattle.class_text.proofs.Insns.{member_insn, insn_of, HasIndex}
+use Rattle.class_text.specs.Meaning.{member_insn, insn_of, NamesConstant, entry_of, NamesMember, Names}
+use Rattle.class_text.proofs.Insns.{HasIndex}
 use Rattle.class_text.proofs.Pools.{Sound, New, entry_sound, text_sound, class_sound, string_sound, field_sound, method_sound, entry_within, class_within}
 
 -- ---- steps
@@ -96,33 +97,6 @@ made_class line name pool made i h =
     }
 
 -- ---- what an index names
-
-abbrev pub NamesConstant : List PoolEntry → ℕ → Constant → Type 0
-NamesConstant pool index (Constant.Int n) = entry_at pool index ≡ Some (entry.Integer n)
-NamesConstant pool index (Constant.Float bits) = entry_at pool index ≡ Some (entry.Float bits)
-NamesConstant pool index (Constant.Text text) = string_at pool index ≡ Some text
-NamesConstant pool index (Constant.Class class) = class_at pool index ≡ Some class
-
--- 178 to 181 get and put fields, and 185 calls an interface's method
-abbrev pub entry_of : ℕ → ℕ → ℕ → PoolEntry
-entry_of op class member = if nat_le op 181 then entry.Fieldref class member else (if op == 185 then entry.InterfaceMethodref class member else entry.Methodref class member)
-
--- an entry of the opcode's kind that names the member
-pub record NamesMember (pool : List PoolEntry) (index op : ℕ) (r : Reference) : Type 0 where
-  pub class : ℕ
-  pub member : ℕ
-  pub at : entry_at pool index ≡ Some (entry_of op class member)
-  pub names : referred pool class member ≡ Some r
-
--- the entry that an instruction names is what its operands say
-abbrev pub Names : List PoolEntry → ℕ → Operation → Type 0
-Names pool index (Operation.Constant op constant) = NamesConstant pool index constant
-Names pool index (Operation.Long n) = entry_at pool index ≡ Some (entry.Long n)
-Names pool index (Operation.Double bits) = entry_at pool index ≡ Some (entry.Double bits)
-Names pool index (Operation.Member op class name descriptor) = NamesMember pool index op (reference class name descriptor)
-Names pool index (Operation.Class op class) = class_at pool index ≡ Some class
-Names pool index (Operation.Multi class dims) = class_at pool index ≡ Some class
-Names pool index operation = Unit {0}
 
 constant_stays : (pool more : List PoolEntry) → Extends pool more → (index : ℕ) (c : Constant) → NamesConstant pool index c → NamesConstant more index c
 constant_stays pool more h index (Constant.Int n) e = entry_stays pool more h index (entry.Integer n) e

@@ -1,8 +1,8 @@
 -- The instructions that a method's lines make, one behind the other.
 use Rattle.std.proofs.Common.{◌≡◌, ℕ, zero, suc, ◌+◌, ◌-◌, ◌*◌, ◌<◌, ◌≤◌, Bool, true, false, ◌&&◌, ◌||◌, List, [], ◌∷◌, ◌++◌, length, map, drop, Option, Some, None, Ok, refl, sym, ap, subst, ◌∙◌, arith, inl, inr, ◌⊎◌, length-append, ℤ, pos, ◌+ℤ◌}
 use Rattle.std.specs.Prelude.{if◌then◌else◌, ◌==◌, nat_lt, nat_le, min, is_some}
-use Rattle.std.specs.List.{AllByRecursion, flat_map, list_all}
-use Rattle.std.proofs.lemmas.Bool.{and_parts, and_from, or_left, or_right, leb-true, ltb-true, eq-eqb, ne_eqb, cond-true, cond-false}
+use Rattle.std.specs.List.{AllByRecursion, AllZip, flat_map, list_all}
+use Rattle.std.proofs.lemmas.Bool.{and_parts, and_from, or_left, or_right, leb-true, ltb-true, eq-eqb, ne_eqb, eqb-true, cond-true, cond-false}
 use Rattle.std.proofs.lemmas.List.{length-drop, length-take, length-map, drop-drop}
 use Rattle.std.proofs.lemmas.List.Folds.{list_all-map}
 use Rattle.std.proofs.Math.Seq.{drop-append_seam}
@@ -24,12 +24,13 @@ use Rattle.class_text.specs.declared.numbered.Numbered.{Numbered}
 use Rattle.class_text.specs.declared.order.Place.{Place}
 use Rattle.class_text.specs.Gives.{Making}
 use Rattle.class_text.specs.Order.{misplaced}
-use Rattle.class_text.specs.Labels.{padding, is_wide_increment, is_wide_form, size_at, advance, is_labelled, place_of, has_label, distance, leads_well, is_new, is_right, mislabelled}
+use Rattle.class_text.specs.Labels.{padding, is_wide_increment, is_wide_form, size_at, advance, is_labelled, place_of, has_label, distance, leads_well, is_at, is_new, is_right, mislabelled}
 use Rattle.class_text.specs.Bytes.{local_operation, increment_operation, branch_bytes, zeros, place_bytes, switch_bytes, table_bytes, case_bytes, cases_bytes, operation_bytes, argument_slots}
 use Rattle.class_text.specs.Pool.{index_made}
 use Rattle.class_text.specs.Making.{step_made, steps_made}
 use Rattle.class_text.proofs.Numbers.{back}
-use Rattle.class_text.proofs.Insns.{insn_of, labels_of, HasIndex, AreNear, IsNoSwitch, operation_spelled}
+use Rattle.class_text.specs.Meaning.{insn_of, labels_of, HasKeys, Labelled, steps_in, Names, IsStep}
+use Rattle.class_text.proofs.Insns.{HasIndex, AreNear, IsNoSwitch, operation_spelled}
 use Rattle.class_text.proofs.Switches.{At, table_stands, lookup_stands}
 use Rattle.class_text.proofs.Made.{then_parts, same_ok, Grown, grown_itself, Indexed, index_is, names_stay, operand_named}
 
@@ -111,6 +112,7 @@ size_some pc _ = omega arith
 pub record Stands (code : List ℕ) (body : List Numbered) (pc index : ℕ) (o : Operation) : Type 0 where
   pub decodes : decoded code pc ≡ Ok (insn_of body pc index o, size_at pc o)
   pub leads : offsets code (insn_of body pc index o) ≡ map (λ name. distance pc (place_of name 0 body)) (labels_of o)
+  pub keys : HasKeys code pc o
 
 single_stands : (code : List ℕ) (body : List Numbered) (pc index : ℕ) (o : Operation) → is_operation o ≡ true → leads_well body pc o ≡ true → HasIndex index o → pc ≤ 65535 → AreNear body → IsNoSwitch o → At code pc (operation_bytes body pc index o)
     → decoded code pc ≡ Ok (insn_of body pc index o, size_at pc o)
@@ -129,7 +131,7 @@ operation_stands code body pc index (Operation.TableSwitch low labels default) f
     let s = table_stands body pc (omega arith) near code index low labels default form leads a in
     let n : table_place pc + (12 + 4 * length (map (λ name. distance pc (place_of name 0 body)) labels)) - pc ≡ size_at pc (Operation.TableSwitch low labels default) =
     omega (arith, length-map labels (λ name. distance pc (place_of name 0 body))) in
-    record { decodes = s.reads.decodes ∙ ap (λ (n : ℕ). let d : Decoded = Ok (Insn.TableSwitch (table_place pc), n) in d) n; leads = s.reads.leads }
+    record { decodes = s.reads.decodes ∙ ap (λ (n : ℕ). let d : Decoded = Ok (Insn.TableSwitch (table_place pc), n) in d) n; leads = s.reads.leads; keys = s.lowest }
 operation_stands code body pc index (Operation.LookupSwitch cases default) form leads has le near a =
     let s = lookup_stands body pc (omega arith) near code index cases default form leads (omega arith) a in
     let n : table_place pc + (8 + 8 * length (map (λ (c : Case). c.key) cases)) - pc ≡ size_at pc (Operation.LookupSwitch cases default) =
@@ -137,25 +139,26 @@ operation_stands code body pc index (Operation.LookupSwitch cases default) form 
     record {
       decodes = s.reads.decodes ∙ ap (λ (n : ℕ). let d : Decoded = Ok (Insn.LookupSwitch (table_place pc), n) in d) n;
       leads = s.reads.leads ∙ ap (λ (l : List ℤ). distance pc (place_of default 0 body) ∷ l) (mapped cases);
+      keys = s.with_keys;
     }
   where
     mapped : (cases : List Case) → map (λ (c : Case). distance pc (place_of c.label 0 body)) cases ≡ map (λ name. distance pc (place_of name 0 body)) (map (λ (c : Case). c.label) cases)
     mapped [] = refl
     mapped (c ∷ cases) = ap (λ (l : List ℤ). distance pc (place_of c.label 0 body) ∷ l) (mapped cases)
 operation_stands code body pc index (Operation.Member op class name descriptor) form leads has le near a =
-    record { decodes = single_stands code body pc index (Operation.Member op class name descriptor) form leads has (omega arith) near tt a; leads = member_leads code op index descriptor (op == 185) }
-operation_stands code body pc index (Operation.Plain op) form leads has le near a = record { decodes = single_stands code body pc index (Operation.Plain op) form leads has (omega arith) near tt a; leads = refl }
-operation_stands code body pc index (Operation.Bipush value) form leads has le near a = record { decodes = single_stands code body pc index (Operation.Bipush value) form leads has (omega arith) near tt a; leads = refl }
-operation_stands code body pc index (Operation.Sipush value) form leads has le near a = record { decodes = single_stands code body pc index (Operation.Sipush value) form leads has (omega arith) near tt a; leads = refl }
-operation_stands code body pc index (Operation.Local op local) form leads has le near a = record { decodes = single_stands code body pc index (Operation.Local op local) form leads has (omega arith) near tt a; leads = refl }
-operation_stands code body pc index (Operation.Iinc local by) form leads has le near a = record { decodes = single_stands code body pc index (Operation.Iinc local by) form leads has (omega arith) near tt a; leads = refl }
-operation_stands code body pc index (Operation.Constant op constant) form leads has le near a = record { decodes = single_stands code body pc index (Operation.Constant op constant) form leads has (omega arith) near tt a; leads = refl }
-operation_stands code body pc index (Operation.Long n) form leads has le near a = record { decodes = single_stands code body pc index (Operation.Long n) form leads has (omega arith) near tt a; leads = refl }
-operation_stands code body pc index (Operation.Double bits) form leads has le near a = record { decodes = single_stands code body pc index (Operation.Double bits) form leads has (omega arith) near tt a; leads = refl }
-operation_stands code body pc index (Operation.Class op class) form leads has le near a = record { decodes = single_stands code body pc index (Operation.Class op class) form leads has (omega arith) near tt a; leads = refl }
-operation_stands code body pc index (Operation.NewArray kind) form leads has le near a = record { decodes = single_stands code body pc index (Operation.NewArray kind) form leads has (omega arith) near tt a; leads = refl }
-operation_stands code body pc index (Operation.Multi class dims) form leads has le near a = record { decodes = single_stands code body pc index (Operation.Multi class dims) form leads has (omega arith) near tt a; leads = refl }
-operation_stands code body pc index (Operation.Branch op to) form leads has le near a = record { decodes = single_stands code body pc index (Operation.Branch op to) form leads has (omega arith) near tt a; leads = refl }
+    record { decodes = single_stands code body pc index (Operation.Member op class name descriptor) form leads has (omega arith) near tt a; leads = member_leads code op index descriptor (op == 185); keys = tt }
+operation_stands code body pc index (Operation.Plain op) form leads has le near a = record { decodes = single_stands code body pc index (Operation.Plain op) form leads has (omega arith) near tt a; leads = refl; keys = tt }
+operation_stands code body pc index (Operation.Bipush value) form leads has le near a = record { decodes = single_stands code body pc index (Operation.Bipush value) form leads has (omega arith) near tt a; leads = refl; keys = tt }
+operation_stands code body pc index (Operation.Sipush value) form leads has le near a = record { decodes = single_stands code body pc index (Operation.Sipush value) form leads has (omega arith) near tt a; leads = refl; keys = tt }
+operation_stands code body pc index (Operation.Local op local) form leads has le near a = record { decodes = single_stands code body pc index (Operation.Local op local) form leads has (omega arith) near tt a; leads = refl; keys = tt }
+operation_stands code body pc index (Operation.Iinc local by) form leads has le near a = record { decodes = single_stands code body pc index (Operation.Iinc local by) form leads has (omega arith) near tt a; leads = refl; keys = tt }
+operation_stands code body pc index (Operation.Constant op constant) form leads has le near a = record { decodes = single_stands code body pc index (Operation.Constant op constant) form leads has (omega arith) near tt a; leads = refl; keys = tt }
+operation_stands code body pc index (Operation.Long n) form leads has le near a = record { decodes = single_stands code body pc index (Operation.Long n) form leads has (omega arith) near tt a; leads = refl; keys = tt }
+operation_stands code body pc index (Operation.Double bits) form leads has le near a = record { decodes = single_stands code body pc index (Operation.Double bits) form leads has (omega arith) near tt a; leads = refl; keys = tt }
+operation_stands code body pc index (Operation.Class op class) form leads has le near a = record { decodes = single_stands code body pc index (Operation.Class op class) form leads has (omega arith) near tt a; leads = refl; keys = tt }
+operation_stands code body pc index (Operation.NewArray kind) form leads has le near a = record { decodes = single_stands code body pc index (Operation.NewArray kind) form leads has (omega arith) near tt a; leads = refl; keys = tt }
+operation_stands code body pc index (Operation.Multi class dims) form leads has le near a = record { decodes = single_stands code body pc index (Operation.Multi class dims) form leads has (omega arith) near tt a; leads = refl; keys = tt }
+operation_stands code body pc index (Operation.Branch op to) form leads has le near a = record { decodes = single_stands code body pc index (Operation.Branch op to) form leads has (omega arith) near tt a; leads = refl; keys = tt }
 
 -- ---- the instructions of a method
 
@@ -194,11 +197,17 @@ OfForm (Some line) = is_line line ≡ true
 abbrev pub AreOfForm : List Numbered → Type 0
 AreOfForm lines = AllByRecursion (λ (l : Numbered). OfForm l.line) lines
 
+-- it is the line's, whose label stands at its place
+pub record OfStep (body : List Numbered) (m : Made) (s : Labelled) : Type 0 where
+  pub operation : m.operation ≡ s.operation
+  pub labelled : (name : Text) → s.label ≡ Some name → place_of name 0 body ≡ Some m.pc
+
 pub record Steps (version : ℕ) (body : List Numbered) (pc : ℕ) (lines : List Numbered) (pool last : List PoolEntry) (bytes : List ℕ) : Type 0 where
   pub made : List Made
   pub each : AllByRecursion (IsMade version body) made
   pub linked : Linked pc pool made last
   pub is : bytes ≡ bytes_of body made
+  pub says : AllZip (OfStep body) made (steps_in lines)
   pub labels : (name : Text) (place : ℕ) → place_of name pc lines ≡ Some place → is_start (map (placed_of body) made) place ≡ true
   pub some : 0 < pc + length bytes
   pub room : pc + length bytes ≤ 65535
@@ -246,11 +255,20 @@ module _ (version : ℕ) (body : List Numbered) (end : ℕ) where
         each = (record { form = f.1; leads = t.0; made = b.first ∙ ap (λ (p : List PoolEntry). let r : Making ℕ = Ok (p, b.value.1) in r) pools; few = few; room = omega arith }, rest.each);
         linked = (refl, refl, subst (λ (n : ℕ). Linked n a.value.0 rest.made c.value.0) there rest.linked);
         is = ap (λ (l : List ℕ). l ++ c.value.1) (sym bytes) ∙ ap (λ (l : List ℕ). operation_bytes body pc b.value.1 o ++ l) rest.is;
+        says = (record { operation = refl; labelled = λ name is. new_label label name is s.0 }, rest.says);
         labels = λ name place found. found_in rest.made name place (rest.labels name place) (label_found name (is_labelled name (Some (Line.Step label o))) pc place (place_of name (advance pc o) lines) found);
         some = omega (arith, all, size);
         room = omega (arith, all, size);
       })
     where
+      at_place : (found : Option ℕ) → is_at pc found ≡ true → found ≡ Some pc
+      at_place None h = absurd cc
+      at_place (Some place) h = ap Some (eqb-true place pc h)
+
+      new_label : (label : Option Text) (name : Text) → label ≡ Some name → is_new body pc label ≡ true → place_of name 0 body ≡ Some pc
+      new_label None name is h = absurd cc
+      new_label (Some given) name is h = (let same : given ≡ name = cc in ap (λ (n : Text). place_of n 0 body) (sym same)) ∙ at_place (place_of given 0 body) h
+
       found_in : (rest : List Made) (name : Text) (place : ℕ) → (place_of name (advance pc o) lines ≡ Some place → is_start (map (placed_of body) rest) place ≡ true) → ((pc == place) ≡ true) ⊎ (place_of name (advance pc o) lines ≡ Some place)
           → ((pc == place) || is_start (map (placed_of body) rest) place) ≡ true
       found_in rest name place next (inl here) = or_left (pc == place) (is_start (map (placed_of body) rest) place) here
@@ -263,7 +281,7 @@ module _ (version : ℕ) (body : List Numbered) (end : ℕ) where
       let done : c.value ≡ made = same_ok c.value made c.after in
       let rest = next pc pool c.value le few form.1 place r.1 c.first in
       subst (λ (x : List PoolEntry × List ℕ). Steps version body pc (record { number = number; line = Some (Line.Catch from to handler class) } ∷ lines) pool x.0 x.1) done
-      (record { made = rest.made; each = rest.each; linked = rest.linked; is = rest.is; labels = rest.labels; some = rest.some; room = rest.room })
+      (record { made = rest.made; each = rest.each; linked = rest.linked; is = rest.is; says = rest.says; labels = rest.labels; some = rest.some; room = rest.room })
 
   end_first : (number : ℕ) (lines : List Numbered) → Makes (record { number = number; line = Some Line.End } ∷ lines)
   end_first number lines pc pool made le few form place right h =
@@ -271,7 +289,7 @@ module _ (version : ℕ) (body : List Numbered) (end : ℕ) where
       let lt = ltb-true 0 pc r.0 in
       let done : (pool, []) ≡ made = same_ok (pool, []) made h in
       subst (λ (x : List PoolEntry × List ℕ). Steps version body pc (record { number = number; line = Some Line.End } ∷ lines) pool x.0 x.1) done
-      (record { made = []; each = tt; linked = refl; is = refl; labels = λ name place found. absurd cc; some = omega arith; room = omega arith })
+      (record { made = []; each = tt; linked = refl; is = refl; says = tt; labels = λ name place found. absurd cc; some = omega arith; room = omega arith })
 
   line_first : (number : ℕ) (o : Option Line) (lines : List Numbered) → Makes lines → Makes (record { number = number; line = o } ∷ lines)
   line_first number (Some (Line.Step label o)) lines next pc pool made le few form place right h = step_first number label o lines next pc pool made le few form place right h
@@ -387,3 +405,26 @@ module _ (version : ℕ) (body : List Numbered) (near : AreNear body) (code : Li
       ap (list_all (λ offset. is_start_at insns (pos m.pc +ℤ offset))) s.leads ∙ way_leads insns labels m.pc (labels_of m.operation) (labels_lead body m.pc m.operation each.0.leads) in
       cond-true (placed_leads_well code insns (placed_of body m)) _ (Some m.pc) leads
       ∙ leads_are insns labels (pc + size_at pc m.operation) m.after last ms each.1 linked.2 (behind pc m ms linked.0 is)
+
+  -- each instruction is the one of its line
+  pub steps_mean : (pc : ℕ) (pool last more : List PoolEntry) (ms : List Made) (steps : List Labelled) → AllByRecursion (IsMade version body) ms → Linked pc pool ms last → Extends last more → drop pc code ≡ bytes_of body ms → AllZip (OfStep body) ms steps
+      → AllZip (IsStep more code body) (map (placed_of body) ms) steps
+  steps_mean pc pool last more [] [] each linked h is says = tt
+  steps_mean pc pool last more [] (s ∷ steps) each linked h is says = absurd says
+  steps_mean pc pool last more (m ∷ ms) [] each linked h is says = absurd says
+  steps_mean pc pool last more (m ∷ ms) (s ∷ steps) each linked h is says =
+      let i = indexed version body m each.0 in
+      let g = linked_grown version body (pc + size_at pc m.operation) m.after last ms i.grown.few each.1 linked.2 in
+      let stands = stands_at m each.0 (here pc m ms linked.0 is) in
+      let named = names_stay m.after more (extends-further m.after last more g.grows h) m.index m.operation i.names in
+      let o = says.0.operation in (
+        record {
+          index = m.index;
+          insn = ap (insn_of body m.pc m.index) o;
+          names = subst (λ (o : Operation). Names more m.index o) o named;
+          leads = stands.leads ∙ ap (λ (o : Operation). map (λ name. distance m.pc (place_of name 0 body)) (labels_of o)) o;
+          keys = subst (λ (o : Operation). HasKeys code m.pc o) o stands.keys;
+          labelled = says.0.labelled;
+        },
+        steps_mean (pc + size_at pc m.operation) m.after last more ms steps each.1 linked.2 h (behind pc m ms linked.0 is) says.1,
+      )

@@ -1,17 +1,18 @@
 -- A class that is made of lines is well-formed (JVMS 4.1).
 use Rattle.std.proofs.Common.{◌≡◌, ℕ, suc, ◌+◌, ◌≤◌, Bool, true, ◌&&◌, List, [], ◌∷◌, length, Option, Some, None, Ok, Err, refl, ap, subst, ◌∙◌, arith}
 use Rattle.std.specs.Prelude.{nat_lt, nat_le, is_some, Result, IfOk}
-use Rattle.std.specs.List.{AllByRecursion, list_all, cons_option}
+use Rattle.std.specs.List.{AllZip, list_all, cons_option}
 use Rattle.std.proofs.lemmas.Bool.{and_parts, and_from, or_left, leb-true, ltb-true, lt-ltb}
 use Rattle.class_file.specs.declared.pool.PoolEntry.{PoolEntry}
 use Rattle.class_file.specs.declared.types.ClassFile.{ClassFile}
 use Rattle.class_file.specs.declared.types.Member.{Member}
 use Rattle.class_file.specs.Text.{within, is_class_name, is_array_descriptor}
-use Rattle.class_file.specs.Pool.{this_name, super_name}
+use Rattle.class_file.specs.Pool.{class_at, this_name, super_name}
 use Rattle.class_file.specs.Range.{is_u2, pool_fits, counted_fits, attribute_fits, member_fits, is_writable}
 use Rattle.class_file.specs.Sound.{is_some_that, pool_is_sound}
 use Rattle.class_file.specs.WellFormed.{kind_in_class, attributes_agree, content_is_sound, is_class_index, field_is_sound, method_is_sound, has_known_version, has_sound_names, has_sound_parts, is_well_formed}
 use Rattle.class_lines.specs.declared.line.Line.{Line}
+use Rattle.class_lines.specs.declared.line.MemberHead.{MemberHead}
 use Rattle.class_lines.specs.Words.{◌>>=◌, Text}
 use Rattle.class_lines.specs.Recoding.{modified}
 use Rattle.class_lines.specs.Heard.{heard}
@@ -30,25 +31,27 @@ use Rattle.class_text.specs.Order.{misplaced}
 use Rattle.class_text.specs.Labels.{mislabelled}
 use Rattle.class_text.specs.Pool.{class_made}
 use Rattle.class_text.specs.Making.{interfaces_made, all_interfaces_made, fields_made, methods_made, class_file_made, first_made, class_made_of}
+use Rattle.class_text.specs.Meaning.{MethodLines, fields_in, methods_in, IsField, IsMethod, Means}
 use Rattle.class_text.specs.Texts.{lines, said, line_numbered, numbered}
 use Rattle.class_text.specs.ClassOf.{first_of, first_wrong, refused, judged, class_of}
 use Rattle.class_text.proofs.Pools.{Sound, sound_empty, sound_pool, pool_fits_from, class_there, index_fits, class_within}
 use Rattle.class_text.proofs.Made.{then_parts, if_made, same_ok, Grown, grown_itself, made_class}
 use Rattle.class_text.proofs.Steps.{OfForm, AreOfForm, grown_further}
-use Rattle.class_text.proofs.SoundMembers.{IsField, IsMethod, fields_are, methods_are}
+use Rattle.class_text.proofs.SoundMembers.{FieldIn, MethodIn, fields_are, methods_are}
 
 -- ---- interfaces
 
 record Interfaces (pool after : List PoolEntry) (names : List Text) (indices : List ℕ) : Type 0 where
   grown : Grown pool after
   there : (more : List PoolEntry) → Extends after more → list_all (is_class_index more) indices ≡ true
+  named : (more : List PoolEntry) → Extends after more → AllZip (λ index name. class_at more index ≡ Some name) indices names
   fit : list_all is_u2 indices ≡ true
   count : length indices ≡ length names
 
 interfaces_are : (number : ℕ) (names : List Text) (pool : List PoolEntry) (made : List PoolEntry × List ℕ) → length pool ≤ 65534 → are_names names ≡ true → interfaces_made number names pool ≡ Ok made → Interfaces pool made.0 names made.1
 interfaces_are number [] pool made few form h =
     let same : (pool, []) ≡ made = same_ok (pool, []) made h in
-    subst (λ (m : List PoolEntry × List ℕ). Interfaces pool m.0 [] m.1) same (record { grown = grown_itself pool few; there = λ more x. refl; fit = refl; count = refl })
+    subst (λ (m : List PoolEntry × List ℕ). Interfaces pool m.0 [] m.1) same (record { grown = grown_itself pool few; there = λ more x. refl; named = λ more x. tt; fit = refl; count = refl })
 interfaces_are number (name ∷ names) pool made few form h =
     let f = and_parts (is_class_name name) (are_names names) form in
     let a = then_parts (class_made number name pool) _ made h in
@@ -59,23 +62,46 @@ interfaces_are number (name ∷ names) pool made few form h =
     subst (λ (m : List PoolEntry × List ℕ). Interfaces pool m.0 (name ∷ names) m.1) same (record {
       grown = grown_further pool a.value.0 b.value.0 c.grown i.grown;
       there = λ more x. and_from (is_class_index more a.value.1) (list_all (is_class_index more) b.value.1) (class_there a.value.0 more (extends-further a.value.0 b.value.0 more i.grown.grows x) a.value.1 (ap is_some c.names)) (i.there more x);
+      named = λ more x. (class_stays a.value.0 more (extends-further a.value.0 b.value.0 more i.grown.grows x) a.value.1 name c.names, i.named more x);
       fit = and_from (is_u2 a.value.1) (list_all is_u2 b.value.1) (index_fits a.value.0 c.grown.few a.value.1 (class_within a.value.0 a.value.1 name c.names)) i.fit;
       count = ap suc i.count;
     })
 
 -- ---- members
 
-all_fields : (version : ℕ) (pool : List PoolEntry) (fields : List Member) → AllByRecursion (IsField version pool) fields → (list_all (field_is_sound version pool) fields ≡ true) × (list_all member_fits fields ≡ true)
-all_fields version pool [] each = (refl, refl)
-all_fields version pool (m ∷ fields) each =
-    let rest = all_fields version pool fields each.1 in
-    (and_from (field_is_sound version pool m) (list_all (field_is_sound version pool) fields) each.0.sound rest.0, and_from (member_fits m) (list_all member_fits fields) each.0.fits rest.1)
+record Fields (version : ℕ) (pool : List PoolEntry) (fields : List Member) (heads : List MemberHead) : Type 0 where
+  sound : list_all (field_is_sound version pool) fields ≡ true
+  fit : list_all member_fits fields ≡ true
+  are : AllZip (IsField pool) fields heads
 
-all_methods : (version : ℕ) (pool : List PoolEntry) (methods : List Member) → AllByRecursion (IsMethod version pool) methods → (list_all (method_is_sound version pool) methods ≡ true) × (list_all member_fits methods ≡ true)
-all_methods version pool [] each = (refl, refl)
-all_methods version pool (m ∷ methods) each =
-    let rest = all_methods version pool methods each.1 in
-    (and_from (method_is_sound version pool m) (list_all (method_is_sound version pool) methods) each.0.sound rest.0, and_from (member_fits m) (list_all member_fits methods) each.0.fits rest.1)
+all_fields : (version : ℕ) (pool : List PoolEntry) (fields : List Member) (heads : List MemberHead) → AllZip (FieldIn version pool) fields heads → Fields version pool fields heads
+all_fields version pool [] [] each = record { sound = refl; fit = refl; are = tt }
+all_fields version pool [] (h ∷ heads) each = absurd each
+all_fields version pool (m ∷ fields) [] each = absurd each
+all_fields version pool (m ∷ fields) (h ∷ heads) each =
+    let rest = all_fields version pool fields heads each.1 in
+    record {
+      sound = and_from (field_is_sound version pool m) (list_all (field_is_sound version pool) fields) each.0.sound rest.sound;
+      fit = and_from (member_fits m) (list_all member_fits fields) each.0.fits rest.fit;
+      are = (each.0.is, rest.are);
+    }
+
+record AllMethods (version : ℕ) (pool : List PoolEntry) (methods : List Member) (items : List MethodLines) : Type 0 where
+  sound : list_all (method_is_sound version pool) methods ≡ true
+  fit : list_all member_fits methods ≡ true
+  are : AllZip (IsMethod pool) methods items
+
+all_methods : (version : ℕ) (pool : List PoolEntry) (methods : List Member) (items : List MethodLines) → AllZip (MethodIn version pool) methods items → AllMethods version pool methods items
+all_methods version pool [] [] each = record { sound = refl; fit = refl; are = tt }
+all_methods version pool [] (i ∷ items) each = absurd each
+all_methods version pool (m ∷ methods) [] each = absurd each
+all_methods version pool (m ∷ methods) (i ∷ items) each =
+    let rest = all_methods version pool methods items each.1 in
+    record {
+      sound = and_from (method_is_sound version pool m) (list_all (method_is_sound version pool) methods) each.0.sound rest.sound;
+      fit = and_from (member_fits m) (list_all member_fits methods) each.0.fits rest.fit;
+      are = (each.0.is, rest.are);
+    }
 
 counted_from : {X : Type 0} (test : X → Bool) (xs : List X) → length xs ≤ 65535 → list_all test xs ≡ true → counted_fits test xs ≡ true
 counted_from test xs le h = and_from (is_u2 (length xs)) (list_all test xs) (lt-ltb (length xs) 65536 (omega arith)) h
@@ -128,8 +154,13 @@ from_parts c x =
     (and_from (pool_is_sound c.pool) (has_sound_names c && has_sound_parts c) (sound_pool c.pool x.few x.sound)
     (and_from (has_sound_names c) (has_sound_parts c) names parts)))
 
+-- the class is well-formed, and means what the lines say
+pub record Good (lines : List Numbered) (c : ClassFile) : Type 0 where
+  pub formed : is_well_formed c ≡ true
+  pub means : Means lines c
+
 made_file : (number : ℕ) (name super : Text) (version flags : ℕ) (names : List Text) (body lines : List Numbered) (pc end : ℕ) (c : ClassFile) → ClassForm name super version flags names → AreOfForm lines → misplaced end Place.Outside lines ≡ None → mislabelled body pc lines ≡ None
-    → class_file_made number name super version flags names lines ≡ Ok c → is_well_formed c ≡ true
+    → class_file_made number name super version flags names lines ≡ Ok c → Good (record { number = number; line = Some (Line.Class name super version flags names) } ∷ lines) c
 made_file number name super version flags names body lines pc end c form are place right h =
     let t = then_parts (class_made number name []) _ c h in
     let this = made_class number name [] t.value (or_left (is_class_name name) (is_array_descriptor name) form.name_is) t.first in
@@ -149,36 +180,49 @@ made_file number name super version flags names body lines pc end c form are pla
     let from_i = extends-further i.value.0 f.value.0 last fields.grown.grows from_f in
     let from_u = extends-further u.value.0 i.value.0 last interfaces.grown.grows from_i in
     let from_t = extends-further t.value.0 u.value.0 last up.grown.grows from_u in
-    let af = all_fields version last f.value.1 (fields.each last from_f) in
-    let am = all_methods version last m.value.1 (methods.each last (extends-itself last)) in
+    let af = all_fields version last f.value.1 (fields_in lines) (fields.each last from_f) in
+    let am = all_methods version last m.value.1 (methods_in lines) (methods.each last (extends-itself last)) in
     let flags_are = form.flags_are in
     let count = interfaces.count in
     let most = leb-true (length names) 65535 few.0 in
     let field_room = fields.room in
     let method_room = methods.room in
-    subst (λ (x : ClassFile). is_well_formed x ≡ true) same (from_parts file (record {
-      minor = refl;
-      version = form.version_is;
-      few = methods.grown.few;
-      sound = methods.grown.sound (fields.grown.sound (interfaces.grown.sound (up.grown.sound (this.grown.sound sound_empty))));
-      flags = lt-ltb flags 65536 (omega arith);
-      this = index_fits t.value.0 this.grown.few t.value.1 (class_within t.value.0 t.value.1 name this.names);
-      super = index_fits u.value.0 up.grown.few u.value.1 (class_within u.value.0 u.value.1 super up.names);
-      interfaces = counted_from is_u2 i.value.1 (omega arith) interfaces.fit;
-      fields = counted_from member_fits f.value.1 (omega arith) af.1;
-      methods = counted_from member_fits m.value.1 (omega arith) am.1;
-      attributes = refl;
-      named = ap (is_some_that is_class_name) (class_stays t.value.0 last from_t t.value.1 name this.names) ∙ form.name_is;
-      extends = class_there u.value.0 last from_u u.value.1 (ap is_some up.names);
-      there = interfaces.there last from_i;
-      fields_sound = af.0;
-      methods_sound = am.0;
-      attributes_agree = refl;
-    }))
+    subst (λ (x : ClassFile). Good (record { number = number; line = Some (Line.Class name super version flags names) } ∷ lines) x) same (record {
+      means = record {
+        minor = refl;
+        major = refl;
+        access = refl;
+        this = class_stays t.value.0 last from_t t.value.1 name this.names;
+        super_class = class_stays u.value.0 last from_u u.value.1 super up.names;
+        implements = interfaces.named last from_i;
+        fields = af.are;
+        methods = am.are;
+        attributes = refl;
+      };
+      formed = from_parts file (record {
+        minor = refl;
+        version = form.version_is;
+        few = methods.grown.few;
+        sound = methods.grown.sound (fields.grown.sound (interfaces.grown.sound (up.grown.sound (this.grown.sound sound_empty))));
+        flags = lt-ltb flags 65536 (omega arith);
+        this = index_fits t.value.0 this.grown.few t.value.1 (class_within t.value.0 t.value.1 name this.names);
+        super = index_fits u.value.0 up.grown.few u.value.1 (class_within u.value.0 u.value.1 super up.names);
+        interfaces = counted_from is_u2 i.value.1 (omega arith) interfaces.fit;
+        fields = counted_from member_fits f.value.1 (omega arith) af.fit;
+        methods = counted_from member_fits m.value.1 (omega arith) am.fit;
+        attributes = refl;
+        named = ap (is_some_that is_class_name) (class_stays t.value.0 last from_t t.value.1 name this.names) ∙ form.name_is;
+        extends = class_there u.value.0 last from_u u.value.1 (ap is_some up.names);
+        there = interfaces.there last from_i;
+        fields_sound = af.sound;
+        methods_sound = am.sound;
+        attributes_agree = refl;
+      });
+    })
 
 -- the first line is the class's own
 first_line : (fault end number : ℕ) (o : Option Line) (lines : List Numbered) (c : ClassFile) → OfForm o → AreOfForm lines → misplaced end Place.Start (record { number = number; line = o } ∷ lines) ≡ None → mislabelled [] 0 (record { number = number; line = o } ∷ lines) ≡ None
-    → first_made fault number o lines ≡ Ok c → is_well_formed c ≡ true
+    → first_made fault number o lines ≡ Ok c → Good (record { number = number; line = o } ∷ lines) c
 first_line fault end number (Some (Line.Class name super version flags interfaces)) lines c form are place right h = made_file number name super version flags interfaces [] lines 0 end c (class_line_form name super version flags interfaces form) are place right h
 first_line fault end number (Some (Line.Field head)) lines c form are place right h = absurd cc
 first_line fault end number (Some (Line.Method head stack locals)) lines c form are place right h = absurd cc
@@ -188,7 +232,7 @@ first_line fault end number (Some (Line.Catch from to handler class)) lines c fo
 first_line fault end number (Some Line.End) lines c form are place right h = absurd cc
 first_line fault end number None lines c form are place right h = absurd cc
 
-made_of_lines : (fault end : ℕ) (all : List Numbered) (c : ClassFile) → AreOfForm all → misplaced end Place.Start all ≡ None → mislabelled [] 0 all ≡ None → class_made_of fault all ≡ Ok c → is_well_formed c ≡ true
+made_of_lines : (fault end : ℕ) (all : List Numbered) (c : ClassFile) → AreOfForm all → misplaced end Place.Start all ≡ None → mislabelled [] 0 all ≡ None → class_made_of fault all ≡ Ok c → Good all c
 made_of_lines fault end [] c are place right h = absurd cc
 made_of_lines fault end (line ∷ lines) c are place right h = first_line fault end line.number line.line lines c are.0 are.1 place right h
 
@@ -230,9 +274,9 @@ pub numbered_form : (number : ℕ) (texts : List Text) → AreOfForm (numbered n
 numbered_form number [] = tt
 numbered_form number (text ∷ texts) = with_said (line_numbered number text) (numbered (number + 1) texts) (said_form number (heard text) (heard_form text)) (numbered_form (number + 1) texts)
 
--- A class that a text is is well-formed.
-pub text_is_well_formed : (text : List ℕ) (c : ClassFile) → class_of text ≡ Ok c → is_well_formed c ≡ true
-text_is_well_formed text c h =
+-- A class that a text is is well-formed, and means what the text's lines say.
+pub text_is_good : (text : List ℕ) (c : ClassFile) → class_of text ≡ Ok c → Good (numbered 1 (lines text)) c
+text_is_good text c h =
     let texts : List Text = lines text in
     let all : List Numbered = numbered 1 texts in
     let j = judged_parts all (first_wrong (length texts + 1) all) c h in
@@ -240,5 +284,9 @@ text_is_well_formed text c h =
     made_of_lines 1 (length texts + 1) all c (numbered_form 1 texts) n.0 n.1 j.1
 
 pub given_well_formed : (result : Result ClassFile TextFault) (text : List ℕ) → Gives result (class_of text) → IfOk result (λ c. is_well_formed c ≡ true)
-given_well_formed (Ok c) text h = text_is_well_formed text c h
+given_well_formed (Ok c) text h = (text_is_good text c h).formed
 given_well_formed (Err fault) text h = tt
+
+pub given_means : (result : Result ClassFile TextFault) (text : List ℕ) → Gives result (class_of text) → IfOk result (λ c. Means (numbered 1 (lines text)) c)
+given_means (Ok c) text h = (text_is_good text c h).means
+given_means (Err fault) text h = tt

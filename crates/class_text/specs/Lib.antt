@@ -6,3 +6,4 @@ pub mod Bytes
 pub mod Pool
 pub mod Making
 pub mod ClassOf
+pub mod Meaning

@@ -5,6 +5,8 @@ ghost use Rattle.std.specs.List.{take_while};
 ghost use Rattle.class_file.specs.WellFormed.{is_well_formed};
 ghost use Rattle.class_text.specs.declared.numbered.Numbered.{Numbered};
 ghost use Rattle.class_text.specs.Gives.{Gives};
+ghost use Rattle.class_text.specs.Meaning.{Means};
+ghost use Rattle.class_text.specs.Texts.{lines, numbered};
 ghost use Rattle.class_text.specs.ClassOf as rule;
 
 use crate::fault::TextFault;
@@ -85,6 +87,9 @@ pub fn to_class(alloc: Global, text: &[u8]) -> Result<ClassFile, TextFault>
     // A class that is answered is a well-formed class file: it can be written, each index of it stands
     // for what it may, and its code has no fault.
     ensures well_formed { IfOk result (λ class. is_well_formed class ≡ true) }
+    // It means what the lines say: the instructions that stand in its code are theirs, in order, lead
+    // where the labels that they name stand, and name in the pool what their operands say.
+    ensures means { IfOk result (λ class. Means (numbered 1 (lines text.now)) class) }
 {
     class_of_text(alloc, text)
 }
