@@ -1,0 +1,9 @@
+pub mod Telling
+pub mod TellingLaws
+pub mod Shares
+pub mod Growth
+pub mod Replies
+pub mod Arrays
+pub mod Monitors
+pub mod Growing
+pub mod Statics

@@ -1,0 +1,50 @@
+//! New arrays, and the objects that stand for classes.
+
+ghost use Rattle.std.specs.Prelude.{◌≡◌, ◌≤ℤ◌, pos, ◌++◌, [], ◌∷◌, List, ℕ, true, Option, IfOk, OnErr};
+ghost use Rattle.class_machine.specs.Effect.{LoadClass, MakeArray};
+ghost use Rattle.machine_values.specs.Types.{type_name};
+ghost use Rattle.machine_requests.specs.Telling.{is_array_type, is_class_type};
+ghost use Rattle.machine_requests.specs.Shares.{Others};
+ghost use Rattle.machine_requests.specs.Replies.{IsAnswer, IsLonger};
+
+use crate::reply::Reply;
+use aj_names::FieldType;
+use class_machine::kinds::Fault;
+use machine_values::{Heap, Value};
+use std::alloc::AllocError;
+
+// A size that isn't negative.
+fn size_of(size: i32) -> u32
+    requires { pos 0 ≤ℤ size }
+    ensures { pos result ≡ size }
+{
+    size as u32
+}
+
+/// A new array of the type, with so many elements (JVMS 6, `newarray` and `anewarray`). A call that
+/// fails leaves the heap as it was.
+pub fn make_array(heap: &mut Heap, class: &FieldType, size: i32) -> Result<Reply, AllocError>
+    requires { is_array_type class.now ≡ true }
+    ensures ok { IfOk result (λ reply. (others : Others) (named : Option (List ℕ)) → IsAnswer heap.old others (λ s names. MakeArray named (type_name class.now) (size ∷ [])) heap.new others reply) }
+    ensures names { IsLonger heap.old heap.new }
+    ensures err { OnErr result (heap.new ≡ heap.old) }
+{
+    if size < 0 {
+        return Ok(Reply::Faults(Fault::NegativeArraySize));
+    }
+    let count = size_of(size);
+    let at = heap.make_array(class, count)?;
+    Ok(Reply::Gives(Value::Reference(at)))
+}
+
+/// The object that stands for the class or array type (JVMS 6, `ldc`). A call that fails leaves the
+/// heap as it was.
+pub fn class_object(heap: &mut Heap, class: &FieldType) -> Result<Reply, AllocError>
+    requires { is_class_type class.now ≡ true }
+    ensures ok { IfOk result (λ reply. (others : Others) → IsAnswer heap.old others (λ s names. LoadClass (type_name class.now)) heap.new others reply) }
+    ensures names { IsLonger heap.old heap.new }
+    ensures err { OnErr result (heap.new ≡ heap.old) }
+{
+    let at = heap.class_object(class)?;
+    Ok(Reply::Gives(Value::Reference(at)))
+}
