@@ -1,18 +1,17 @@
 -- How the words of arguments begin and end.
-use Rattle.std.proofs.Common.{◌≡◌, ◌≢◌, ◌⊎◌, ℕ, ◌^◌, ◌<◌, ◌≤◌, Bool, true, false, List, [], ◌∷◌, ◌++◌, refl, sym, ap, subst, ◌∙◌, length, arith, inl, inr, append_assoc, get_or, length-append}
+use Rattle.std.proofs.Common.{◌≡◌, ◌≢◌, ◌⊎◌, ℕ, ◌<◌, Bool, true, false, List, [], ◌∷◌, ◌++◌, refl, sym, ap, subst, ◌∙◌, length, arith, inl, inr, append_assoc, get_or, length-append}
 use Rattle.std.proofs.Math.Seq.{get_or-append_seam}
 use Rattle.std.specs.Prelude.{◌==◌, ◌||◌, codes, ℤ}
 use Rattle.std.specs.List.{list_any, flat_map, join_with_byte}
 use Rattle.std.specs.Fmt.{signed_decimal}
 use Rattle.std.proofs.lemmas.Bool.{ne_eqb}
-use Rattle.std.proofs.lemmas.List.{append-nil}
 use Rattle.machine_values.specs.declared.script.EntryArg.{EntryArg}
 use Rattle.machine_values.specs.declared.script.EntryArg.TheVariants as arg
 use Rattle.run_lines.specs.Splits.{Text, is_stop, IsStopSplit}
 use Rattle.run_lines.specs.Numbers.{IsInt, IsLong}
 use Rattle.run_lines.specs.Lists.{IsWordAt, IsListAt}
 use Rattle.run_lines.specs.Texts.{escape, IsText}
-use Rattle.run_lines.specs.Arguments.{IsLongArgument, IsPlainArgument, IsTexts, IsArgument, BeginsWithStop, IsEndedAt}
+use Rattle.run_lines.specs.Arguments.{IsLongArgument, IsPlainArgument, IsTexts, IsArgument, IsEndedAt}
 use Rattle.run_lines.proofs.Refusing.{pair_is, left, right}
 use Rattle.run_lines.proofs.Listing.{IsOne}
 use Rattle.run_lines.proofs.NumberWords.{int_small, long_small, AreNumberBytes, signed_are, signed_some, number_first, number_last, number_starts}

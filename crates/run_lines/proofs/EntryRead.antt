@@ -1,6 +1,5 @@
 -- An entry, part by part.
-use Rattle.std.proofs.Common.{◌≡◌, ℕ, List, [], sym, ap, subst, ◌∙◌}
-use Rattle.machine_values.specs.declared.script.EntryArg.{EntryArg}
+use Rattle.std.proofs.Common.{◌≡◌, [], ap, subst}
 use Rattle.run_lines.specs.declared.entry.EntryWords.{EntryWords}
 use Rattle.run_lines.specs.Splits.{Text, IsFirstSplit, IsLastSplit}
 use Rattle.run_lines.specs.Lists.{IsListAt}

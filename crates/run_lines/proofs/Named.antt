@@ -1,5 +1,5 @@
 -- Names of classes and methods.
-use Rattle.std.proofs.Common.{◌≡◌, ℕ, false, true, List, sym, ap, subst, ◌∙◌}
+use Rattle.std.proofs.Common.{◌≡◌, false, true, sym, ap, subst, ◌∙◌}
 use Rattle.std.proofs.lemmas.Bool.{false≢true}
 use Rattle.aj_names.specs.ModifiedUtf8.{text_spelling}
 use Rattle.aj_names.specs.Names.{IsClassName, IsMemberName}

@@ -4,7 +4,7 @@ use Rattle.std.specs.Prelude.{◌==◌, Result, Ok, Err, Option, Some, None, is_
 use Rattle.std.proofs.lemmas.Bool.{false≢true, ne_eqb}
 use Rattle.run_lines.specs.declared.fault.WordFault.{WordFault}
 use Rattle.run_lines.specs.declared.fault.WordFault.TheVariants as faults
-use Rattle.run_lines.specs.Reading.{IsOfNothing, IsOfNoOther, Finds, Refuses, Reads}
+use Rattle.run_lines.specs.Reading.{IsOfNothing, Finds, Refuses, Reads}
 
 -- some value is of the form
 abbrev pub IsOfSome : {Z : Type 0} → (Z → Type 0) → Type 0

@@ -1,5 +1,5 @@
 -- The lines that are printed of a run.
-use Rattle.std.specs.Prelude.{List, ℕ, [], ◌∷◌, ◌++◌, codes, Option, Some, None}
+use Rattle.std.specs.Prelude.{[], ◌∷◌, ◌++◌, codes, Option, Some, None}
 use Rattle.class_machine.specs.Lines.{event_text, ending_text}
 use Rattle.machine_values.specs.declared.observed.Event.{Event}
 use Rattle.machine_values.specs.declared.observed.Ending.{Ending}

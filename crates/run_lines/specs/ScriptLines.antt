@@ -1,5 +1,5 @@
 -- The lines of a script, each with an answer to a native call.
-use Rattle.std.specs.Prelude.{◌≡◌, ◌≢◌, ℕ, suc, ◌⊎◌, List, [], ◌∷◌, ◌++◌, length, codes, Result, Ok, Err}
+use Rattle.std.specs.Prelude.{◌≡◌, ◌≢◌, ℕ, suc, ◌⊎◌, List, [], ◌∷◌, length, codes, Result, Ok, Err}
 use Rattle.machine_values.specs.declared.script.Answer.{Answer}
 use Rattle.machine_values.specs.declared.script.Answer.TheVariants as answer
 use Rattle.machine_values.specs.declared.script.Script.{Script}

@@ -1,8 +1,8 @@
-use Rattle.std.proofs.Common.{ℕ, List, [], ◌∷◌, arith}
+use Rattle.std.proofs.Common.{List, ◌∷◌, arith}
 use Rattle.std.proofs.lemmas.Result.{err_from_is_err_and}
 use Rattle.machine_values.specs.declared.script.EntryArg.{EntryArg}
 use Rattle.run_lines.specs.Splits.{Text}
-use Rattle.run_lines.specs.Lists.{IsWordAt, IsListAt}
+use Rattle.run_lines.specs.Lists.{IsListAt}
 use Rattle.run_lines.specs.Arguments.{IsArgument, IsEndedAt}
 use Rattle.run_lines.proofs.Refusing.{refused}
 use Rattle.run_lines.proofs.Listing.{empty_read, behind_begins, behind_more, behind_closes, behind_only, behind_stuck, behind_leads}

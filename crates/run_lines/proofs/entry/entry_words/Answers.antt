@@ -1,4 +1,4 @@
-use Rattle.std.proofs.Common.{◌≡◌, ℕ, List, [], subst}
+use Rattle.std.proofs.Common.{List, [], subst}
 use Rattle.std.proofs.lemmas.Result.{err_from_is_err_and}
 use Rattle.machine_values.specs.declared.script.EntryArg.{EntryArg}
 use Rattle.run_lines.specs.declared.entry.EntryWords.{EntryWords}

@@ -1,7 +1,7 @@
-use Rattle.std.proofs.Common.{◌≡◌, ◌+◌, ◌<◌, ℕ, [], true, length, refl, ap, sym, subst, rules, tests, arith}
+use Rattle.std.proofs.Common.{◌≡◌, ◌+◌, ◌<◌, ℕ, true, length, refl, ap, rules, tests}
 use Rattle.machine_values.specs.declared.script.Script.{Script}
 use Rattle.run_lines.proofs.Refusing.{emptied}
-use Rattle.run_lines.proofs.ScriptRead.{IsRead, read_begins, read_more, script_made, script_only, other_made, other_only, no_script}
+use Rattle.run_lines.proofs.ScriptRead.{read_more, script_made, script_only, other_made, other_only, no_script}
 use Rattle.run_lines.proofs.script.read_script.Goals as goal
 
 pub loop-rest-preserved : goal.loop-rest-preserved
