@@ -1,0 +1,12 @@
+pub mod Refusing
+pub mod Cuts
+pub mod Escapes
+pub mod Closing
+pub mod TextWords
+pub mod Listing
+pub mod NumberWords
+pub mod ArgumentWords
+pub mod Named
+pub mod EntryRead
+pub mod ScriptRead
+pub mod Printed

@@ -1,0 +1,10 @@
+pub mod Reading
+pub mod Splits
+pub mod Numbers
+pub mod Lists
+pub mod Texts
+pub mod Names
+pub mod Arguments
+pub mod EntryWord
+pub mod ScriptLines
+pub mod Printing
