@@ -1,9 +1,9 @@
 """The first fault of a class file, by a reader of its own: written from the format (JVMS, second edition,
 chapter 4) and the order of faults that README.md states, and sharing nothing with the proved reader.
 
-`first_fault(data)` gives what `weave` prints behind the file's name, or None where the bytes are a class
-file; `world_fault(data)` what it prints behind `refused: ` of a class file whose class is alone beside the
-library, or None where that has no fault."""
+`read(data)` gives the class and what `weave` prints behind the file's name, or None where the bytes are a
+class file; `world_fault(class)` gives what it prints behind the class's name where the class is alone beside
+the library, or None where that has no fault; `printed(class.name)` is the name as it is printed."""
 import struct
 
 
@@ -486,12 +486,14 @@ def decode(code, pc):
     return size, op, operand, offsets
 
 
-def first_fault(data):
+def read(data):
+    """The class of a class file, and None; or what was read up to the first fault, and the fault."""
+    reader = ClassReader(data)
     try:
-        ClassReader(data).read()
+        reader.read()
     except Fault as fault:
-        return str(fault)
-    return None
+        return reader, str(fault)
+    return reader, None
 
 
 # The library, the classes that are there without a class file: the final ones, the interfaces, the others.
@@ -522,29 +524,21 @@ def kept_names(reader):
     return any(b"ajc$" in name for name in names)
 
 
-def world_fault(data):
-    """What `weave` prints of a class file whose class is alone beside the library, or None."""
-    reader = ClassReader(data)
-    reader.read()
+def world_fault(reader):
+    """What `weave` prints behind its name of a class that is alone beside the library, or None."""
     own, above = reader.name, reader.above
     final, interface = bool(reader.flags & 0x10), bool(reader.flags & 0x200)
     if own in FINAL | INTERFACES | OPEN:
-        return f"{printed(own)} duplicate"
+        return "duplicate"
     if kept_names(reader):
-        return f"{printed(own)} reserved"
+        return "reserved"
     for name in [above, *reader.interfaces]:
         if name != own and name not in FINAL | INTERFACES | OPEN:
-            return f"{printed(own)} missing-super {printed(name)}"
+            return f"missing-super {printed(name)}"
     if above in FINAL | INTERFACES or above == own and (final or interface):
-        return f"{printed(own)} final-super"
+        return "final-super"
     if any(name not in INTERFACES and not (name == own and interface) for name in reader.interfaces):
-        return f"{printed(own)} final-super"
+        return "final-super"
     if own in [above, *reader.interfaces]:
-        return f"{printed(own)} circle"
+        return "circle"
     return None
-
-
-def own_name(data):
-    reader = ClassReader(data)
-    reader.read()
-    return printed(reader.name).replace(".", "/")
