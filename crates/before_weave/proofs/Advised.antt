@@ -1,5 +1,5 @@
 -- The marks say where the advice applies.
-use Rattle.std.proofs.Common.{◌≡◌, ℕ, zero, suc, Bool, true, false, eqb, cond, not, ◌&&◌, List, [], ◌∷◌, Option, Some, None, map, get_or, refl, sym, ap, subst, ◌∙◌}
+use Rattle.std.proofs.Common.{◌≡◌, ℕ, zero, suc, Bool, true, false, eqb, not, ◌&&◌, ◌||◌, List, [], ◌∷◌, Option, Some, None, map, get_or, refl, sym, ap, subst, ◌∙◌}
 use Rattle.std.specs.Prelude.{slice_get, option_and_then, codes}
 use Rattle.std.specs.Option.{option_map}
 use Rattle.std.specs.Str.{bytes_eq}
@@ -124,7 +124,7 @@ module _ (a : FirstAspect) where
     plain_as : (op n : ℕ) → eqb op n ≡ true → Agrees (insn.Plain n) → Agrees (insn.Plain op)
     plain_as op n is agrees = subst (λ (k : ℕ). Agrees (insn.Plain k)) (sym (eqb-true op n is)) agrees
 
-    plain_agrees : (op : ℕ) (x y : Bool) → eqb op 0 ≡ x → eqb op 177 ≡ y → (cond x true y) ≡ true → Agrees (insn.Plain op)
+    plain_agrees : (op : ℕ) (x y : Bool) → eqb op 0 ≡ x → eqb op 177 ≡ y → (x || y) ≡ true → Agrees (insn.Plain op)
     plain_agrees op true y e f h = plain_as op 0 e refl
     plain_agrees op false true e f h = plain_as op 177 f refl
     plain_agrees op false false e f h = let apart : false ≡ true = h in absurd cc

@@ -1,5 +1,5 @@
 -- A class with an advised call is not untouched.
-use Rattle.std.proofs.Common.{◌≡◌, ℕ, zero, suc, ◌<◌, Bool, true, not, List, [], ◌∷◌, ◌++◌, length, length-append, get_or, Some, None, Ok, sym, ap, subst, ◌∙◌, append_assoc, arith, ⊎_elim}
+use Rattle.std.proofs.Common.{◌≡◌, ℕ, zero, suc, ◌<◌, Bool, true, not, List, [], ◌∷◌, ◌++◌, length, length-append, get_or, Some, Ok, sym, ap, subst, ◌∙◌, append_assoc, arith, ⊎_elim}
 use Rattle.std.specs.List.{list_all, list_any, filter_map, flat_map, AllByRecursion, Any}
 use Rattle.std.proofs.lemmas.Bool.{and_parts, or_cases, true≢false}
 use Rattle.std.proofs.lemmas.Option.{slice_get-get_or}
@@ -8,7 +8,6 @@ use Rattle.opcode_table.specs.Decoding.{decoded}
 use Rattle.opcode_table.specs.Spelling.{spelling, IsInsn, IsSingle}
 use Rattle.opcode_table.specs.DecodedAgain.{decoded_after}
 use Rattle.class_file.specs.declared.types.ClassFile.{ClassFile}
-use Rattle.class_file.specs.declared.types.Member.{Member}
 use Rattle.class_file.specs.declared.types.Attribute.{Attribute}
 use Rattle.class_file.specs.Pool.{this_name}
 use Rattle.class_file.specs.FirstForm.{is_first_form, is_form_insn, is_form_method, method_names, own_name}

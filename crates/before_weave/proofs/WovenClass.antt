@@ -36,12 +36,6 @@ pub each_known : {X : Type 0} (P : X → Bool) (Q R : X → Type 0) (xs : List X
 each_known P Q R [] h all e = tt
 each_known P Q R (x ∷ xs) h all e = let both = and_parts (P x) (list_all P xs) all in (h x both.0 e.0, each_known P Q R xs h both.1 e.1)
 
-pub zip_weaker : {X : Type 0} (R S : X → X → Type 0) (xs ys : List X) → ((x y : X) → R x y → S x y) → AllZip R xs ys → AllZip S xs ys
-zip_weaker R S [] [] h e = tt
-zip_weaker R S [] (y ∷ ys) h e = absurd e
-zip_weaker R S (x ∷ xs) [] h e = absurd e
-zip_weaker R S (x ∷ xs) (y ∷ ys) h e = (h x y e.0, zip_weaker R S xs ys h e.1)
-
 pub each_weaker : {X : Type 0} (P Q : X → Type 0) (xs : List X) → ((x : X) → P x → Q x) → AllByRecursion P xs → AllByRecursion Q xs
 each_weaker P Q [] h e = tt
 each_weaker P Q (x ∷ xs) h e = (h x e.0, each_weaker P Q xs h e.1)

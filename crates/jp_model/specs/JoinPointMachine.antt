@@ -3,7 +3,7 @@
 -- step is the class machine's.
 use Rattle.std.specs.Prelude.{◌++◌, if◌then◌else◌, List, [], ◌∷◌, map, Option, Some, None}
 use Rattle.std.specs.Option.{option_map}
-use Rattle.event_machine.specs.Outcome.{Outcome, Went, Said, Ended, outcome_map}
+use Rattle.event_machine.specs.Outcome.{Went, Said, Ended, outcome_map}
 use Rattle.class_file.specs.declared.types.ClassFile.{ClassFile}
 use Rattle.class_machine.specs.Values.{Name, class_of, Held}
 use Rattle.class_machine.specs.Events.{Event, Print, Ending, Returned, Uncaught, InitFailed, Broken, Answer}

@@ -11,14 +11,12 @@ use Rattle.class_file.specs.declared.types.ClassFile.{ClassFile}
 use Rattle.class_file.specs.declared.types.CodeAttr.{CodeAttr}
 use Rattle.class_file.specs.FirstForm.{is_printable, is_printable_text, is_identifier}
 use Rattle.class_file.specs.Pool.{Reference, this_name}
-use Rattle.class_heads.specs.declared.types.ClassHead.{ClassHead}
 use Rattle.class_heads.specs.Heads.{head_of, method_head}
 use Rattle.class_heads.specs.Hierarchy.{is_array}
 use Rattle.class_heads.specs.Hierarchy as heads
 use Rattle.boot_library.specs.Heads.{library_heads}
 use Rattle.class_machine.specs.Classes.{reference}
 use Rattle.class_machine.specs.Texts.{units_of}
-use Rattle.class_machine.specs.Turn.{Entry, Code}
 use Rattle.class_machine.specs.ClassFiles.{Place, MethodCode, place_in, is_named, file_named, code_declared, method_code, next_pc, line_at, entry_of, field_constant, class_code}
 use Rattle.class_machine.specs.Run.{class_table}
 use Rattle.jp_model.specs.declared.first_aspect.FirstAspect.{FirstAspect}

@@ -1,6 +1,6 @@
 -- What is known of a class of the first form: each instruction has a meaning, the same in a longer pool.
 use Rattle.std.proofs.Common.{◌≡◌, ℕ, zero, suc, ◌+◌, Bool, true, false, ◌&&◌, ◌||◌, ◌==◌, bytes_eq, List, [], ◌∷◌, ◌++◌, length, drop, flat_map, Option, Some, None, Ok, Err, refl, sym, ap, ◌∙◌, option_map, option_and_then, arith, if◌then◌else◌, subst}
-use Rattle.std.specs.List.{list_any, AllByRecursion}
+use Rattle.std.specs.List.{AllByRecursion}
 use Rattle.std.proofs.lemmas.Bool.{and_parts, eqb-true}
 use Rattle.std.proofs.lemmas.List.{drop-drop, drop_at, drop_all}
 use Rattle.std.proofs.lemmas.Slice.Eq.{bytes_eq-Decides}
@@ -19,7 +19,7 @@ use Rattle.class_machine.specs.declared.kinds.Access.{Access}
 use Rattle.class_machine.specs.declared.kinds.Mode.{Mode}
 use Rattle.class_machine.specs.Classes.{reference}
 use Rattle.class_machine.specs.Texts.{units_of}
-use Rattle.class_machine.specs.Operations.{Operation, Refer, FieldAccess, Invoke}
+use Rattle.class_machine.specs.Operations.{Operation, FieldAccess, Invoke}
 use Rattle.class_machine.specs.Declarations.{output_field}
 use Rattle.class_machine.specs.ClassFiles.{constant_operation, operation}
 use Rattle.woven_calls.specs.Laws.Pools.{Extends, found_through, string_kept, field_kept, method_kept}

@@ -1,13 +1,11 @@
 -- What is found in classes and in the classes that are written for them.
-use Rattle.std.proofs.Common.{◌≡◌, ◌≢◌, ℕ, Bool, true, false, ◌&&◌, ◌||◌, ◌==◌, bytes_eq, IsTrue, List, [], ◌∷◌, ◌++◌, flat_map, map, Option, Some, None, refl, sym, ap, ◌∙◌, subst, subst₂, option_and_then, if◌then◌else◌, codes}
-use Rattle.std.specs.Option.{option_map, unwrap_or}
-use Rattle.std.specs.List.{find, filter_map, list_all, list_any, AllByRecursion, AllZip}
-use Rattle.std.proofs.lemmas.Bool.{and_parts, cases_Bool, true≢false}
+use Rattle.std.proofs.Common.{◌≡◌, ◌≢◌, ℕ, Bool, true, false, bytes_eq, IsTrue, List, [], ◌∷◌, ◌++◌, flat_map, Option, Some, None, refl, sym, ap, ◌∙◌, subst, subst₂, option_and_then, if◌then◌else◌}
+use Rattle.std.specs.Option.{option_map}
+use Rattle.std.specs.List.{find, filter_map, list_all, AllByRecursion, AllZip}
 use Rattle.std.proofs.lemmas.Option.{same_Some}
 use Rattle.std.proofs.lemmas.Slice.Eq.{bytes_eq-Decides}
 use Rattle.opcode_table.specs.declared.insn.Insn.{Insn}
 use Rattle.opcode_table.specs.Spelling.{spelling}
-use Rattle.class_file.specs.declared.pool.PoolEntry.{PoolEntry}
 use Rattle.class_file.specs.declared.types.ClassFile.{ClassFile}
 use Rattle.class_file.specs.declared.types.Member.{Member}
 use Rattle.class_file.specs.declared.types.Attribute.{Attribute}

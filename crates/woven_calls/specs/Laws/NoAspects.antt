@@ -1,8 +1,7 @@
 -- Without aspects each chain is empty, and the join point machine steps as the class machine does.
-use Rattle.std.proofs.Common.{◌≡◌, Bool, List, [], ◌∷◌, ◌++◌, map, Option, Some, None, refl, sym, ap, ◌∙◌}
-use Rattle.std.specs.Prelude.{if◌then◌else◌}
+use Rattle.std.proofs.Common.{◌≡◌, List, [], ◌∷◌, map, Option, Some, None, refl, sym, ap, ◌∙◌}
 use Rattle.std.proofs.lemmas.List.{map-append}
-use Rattle.event_machine.specs.Outcome.{Outcome, Went, Said, Ended, outcome_map}
+use Rattle.event_machine.specs.Outcome.{Went, Said, Ended, outcome_map}
 use Rattle.event_machine.specs.Laws.{equivalent_observed, observed-image}
 use Rattle.class_file.specs.declared.types.ClassFile.{ClassFile}
 use Rattle.class_file.specs.Pool.{Reference}

@@ -22,7 +22,7 @@ use Rattle.jp_model.specs.Aspects.{PrintLine, Advice, Aspect}
 use Rattle.jp_model.specs.JoinPoints.{matches, call_at, chain_for, chain_of}
 use Rattle.woven_calls.specs.Laws.Tables.{own_found}
 use Rattle.woven_calls.specs.Laws.Turns.{Form, Nothing, Text, Output, Prints, Calls, Back, meaning}
-use Rattle.woven_calls.specs.Laws.Carries.{SameEntry, SameCall, CallsSame, HasForm, IsKept, IsAdvised, Speaks, Carries}
+use Rattle.woven_calls.specs.Laws.Carries.{SameEntry, CallsSame, HasForm, IsKept, IsAdvised, Speaks, Carries}
 use Rattle.woven_calls.specs.Laws.AspectClass.{advice_reference}
 use Rattle.woven_calls.specs.Laws.Forms.{CallsKnown, HasMeaning, decoded_end, drop_behind}
 

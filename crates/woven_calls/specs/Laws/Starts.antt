@@ -1,29 +1,27 @@
 -- From every entry method the written classes run as the join point machine does on the classes and the aspect.
-use Rattle.std.proofs.Common.{◌≡◌, ◌≢◌, ℕ, Bool, true, false, ◌&&◌, bytes_eq, IsTrue, inl, inr, List, [], ◌∷◌, ◌++◌, length, map, Option, Some, None, refl, sym, ap, ap₂, ◌∙◌, subst, subst₂, option_and_then, if◌then◌else◌}
+use Rattle.std.proofs.Common.{◌≡◌, ◌≢◌, ℕ, Bool, true, ◌&&◌, bytes_eq, IsTrue, inr, List, [], ◌∷◌, ◌++◌, length, map, Option, Some, None, refl, sym, ap, ap₂, ◌∙◌, subst, subst₂, option_and_then, if◌then◌else◌}
 use Rattle.std.specs.Option.{option_map, unwrap_or}
-use Rattle.std.specs.List.{find, list_any, AllByRecursion, AllZip}
+use Rattle.std.specs.List.{list_any, AllByRecursion, AllZip}
 use Rattle.std.proofs.lemmas.Bool.{and_parts}
 use Rattle.std.proofs.lemmas.List.{length-map, map-append}
 use Rattle.std.proofs.lemmas.Option.{same_Some}
-use Rattle.event_machine.specs.Outcome.{Outcome, Ended, outcome_map}
+use Rattle.event_machine.specs.Outcome.{Outcome, Ended}
 use Rattle.event_machine.specs.Equivalent.{Equivalent}
 use Rattle.event_machine.specs.Follows.{no_waits}
 use Rattle.event_machine.specs.Laws.{simulated, locked}
 use Rattle.class_file.specs.declared.types.ClassFile.{ClassFile}
-use Rattle.class_file.specs.declared.types.Member.{Member}
-use Rattle.class_file.specs.FirstForm.{is_printable_text, is_identifier, is_own_method, is_form_method, method_names, no_arguments}
-use Rattle.class_file.specs.Pool.{Reference, this_name}
+use Rattle.class_file.specs.FirstForm.{is_printable_text, is_identifier, is_own_method, method_names, no_arguments}
+use Rattle.class_file.specs.Pool.{Reference}
 use Rattle.class_heads.specs.declared.types.ClassHead.{ClassHead}
 use Rattle.class_heads.specs.Heads.{head_of, method_head}
-use Rattle.class_heads.specs.Hierarchy as heads
-use Rattle.class_heads.specs.Searches.{method_position, is_private}
+use Rattle.class_heads.specs.Searches.{is_private}
 use Rattle.boot_library.specs.Heads.{library_heads}
 use Rattle.class_machine.specs.Values.{content}
 use Rattle.class_machine.specs.Events.{Event, Ending, Answer, Unresolved, Broken, is_broken}
 use Rattle.class_machine.specs.Classes.{reference, member_text, Method, Classes}
-use Rattle.class_machine.specs.World.{World, begin}
+use Rattle.class_machine.specs.World.{begin}
 use Rattle.class_machine.specs.Turn.{Entry, Code, Frame, filled, pending}
-use Rattle.class_machine.specs.Machine.{Nothing, Finally, Step, State}
+use Rattle.class_machine.specs.Machine.{Nothing, State}
 use Rattle.class_machine.specs.Start.{EntryArgument, first_world, entry_among, state, over, at_entry, start}
 use Rattle.class_machine.specs.Declarations.{method_found}
 use Rattle.class_machine.specs.ClassFiles.{Place, MethodCode, place_in, entry_of, file_named, code_declared, method_code, field_constant, class_code}
@@ -31,7 +29,7 @@ use Rattle.class_machine.specs.Run.{class_table, class_step, class_start}
 use Rattle.jp_model.specs.declared.first_aspect.FirstAspect.{FirstAspect}
 use Rattle.jp_model.specs.AspectText.{aspect_of}
 use Rattle.jp_model.specs.Aspects.{Aspect}
-use Rattle.jp_model.specs.JoinPointMachine.{State as JoinState, as_activations, aspect_step, aspect_start}
+use Rattle.jp_model.specs.JoinPointMachine.{as_activations, aspect_step}
 use Rattle.jp_model.specs.Headline.{methods_of, entry_in, RunsAlike, Behaves}
 use Rattle.woven_calls.specs.Woven.{aspect_class}
 use Rattle.woven_calls.specs.Laws.Pools.{found_through}
@@ -162,8 +160,7 @@ module _ (a : FirstAspect) (aspect : IsTrue (is_identifier a.name)) (printable :
       (head_found before r.class c (not_empty r.class identifier) (ap (file_named before) (sym at) ∙ found)) d.found ∙ ap Some method in
       let there : cs'.method q ≡ Some (own_found q (is_private (method_head c.pool d.x))) =
       given_method (map head_of after) library_heads (length after) (sym (length-map after head_of)) (field_constant after) q (head_of c) (method_head c.pool d.x) (no_array r.class identifier)
-      (head_found after r.class w (not_empty r.class identifier) (ap (file_named after) (sym at) ∙ found') ∙ ap Some x.head) d.found ∙ ap Some method in
-      (
+      (head_found after r.class w (not_empty r.class identifier) (ap (file_named after) (sym at) ∙ found') ∙ ap Some x.head) d.found ∙ ap Some method in (
         same_class,
         subst (Callable cs cs') same (record { private = is_private (method_head c.pool d.x); here = here; there = there; parameters = refl }),
       )

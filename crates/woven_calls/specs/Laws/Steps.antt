@@ -1,7 +1,7 @@
 -- A code that carries out the advice of another runs as the join point machine does on that one.
-use Rattle.std.proofs.Common.{◌≡◌, ℕ, ◌+◌, Bool, true, false, is_some, if◌then◌else◌, List, [], ◌∷◌, ◌++◌, map, Option, Some, None, refl, sym, ap, ap₂, ◌∙◌, arith, inl, inr, IsTrue, subst}
+use Rattle.std.proofs.Common.{◌≡◌, ℕ, Bool, true, false, is_some, if◌then◌else◌, List, [], ◌∷◌, ◌++◌, map, Option, Some, None, refl, ap, ap₂, ◌∙◌, arith, inl, inr, IsTrue, subst}
 use Rattle.std.specs.Option.{option_map}
-use Rattle.event_machine.specs.Outcome.{Outcome, Went, Said, Ended}
+use Rattle.event_machine.specs.Outcome.{Went, Said, Ended}
 use Rattle.event_machine.specs.Follows.{Follows, Leads, no_waits}
 use Rattle.event_machine.specs.Equivalent.{Equivalent}
 use Rattle.event_machine.specs.Alike.{Alike}
@@ -24,7 +24,7 @@ use Rattle.jp_model.specs.JoinPointMachine.{Activation, Runs, Joins, Speaks as S
 use Rattle.jp_model.specs.JoinPointMachine as join
 use Rattle.woven_calls.specs.Laws.Tables.{Knows}
 use Rattle.woven_calls.specs.Laws.Turns.{Form, Nothing, Text, Output, Prints, Calls, Back, meaning, Known, TheOutput, AText, operand, holding, frame, nothing_turn, text_turn, output_turn, print_turn, print_nothing, print_alone, call_turn, entered_turn, printed_turn, left_turn, back_turn}
-use Rattle.woven_calls.specs.Laws.Carries.{SameEntry, SameCall, CallsSame, HasForm, Speaks, Carries}
+use Rattle.woven_calls.specs.Laws.Carries.{SameEntry, CallsSame, Speaks, Carries}
 
 no_line : {X : Type 0} → IsTrue false → X
 no_line e = let apart : false ≡ true = e in absurd cc

@@ -58,9 +58,6 @@ pub record Knows (cs : Classes) : Type 0 where
 
 -- ---- places
 
-some_same : {X : Type 0} (x y : X) → Some x ≡ Some y → x ≡ y
-some_same x y same = cc
-
 -- the first element that passes, and its place
 record FoundAt {X : Type 0} (t : X → Bool) (i : ℕ) (xs : List X) (x : X) : Type 0 where
   k : ℕ

@@ -8,19 +8,19 @@ use Rattle.class_machine.specs.declared.kinds.Access.{Access}
 use Rattle.class_machine.specs.declared.kinds.Kind.{Kind}
 use Rattle.class_machine.specs.declared.kinds.Mode.{Mode}
 use Rattle.class_machine.specs.declared.meaning.Basic.{Basic}
-use Rattle.class_machine.specs.Values.{Name, Literal, print_stream_class, string_class, system_class, class_of, Reference as Pointer, Held, Value, Plain, Local, Content, content, pushed_on, has_room}
+use Rattle.class_machine.specs.Values.{Name, Literal, print_stream_class, string_class, system_class, Reference as Pointer, Held, Value, Plain, Local, Content, content, pushed_on, has_room}
 use Rattle.class_machine.specs.Descriptors.{kind_in, parameters_in, result_in}
-use Rattle.class_machine.specs.Events.{Event, Print, Unresolved, Broken}
+use Rattle.class_machine.specs.Events.{Print, Unresolved, Broken}
 use Rattle.class_machine.specs.Classes.{member_text, Field, Method, Classes, is_among}
 use Rattle.class_machine.specs.World.{World, find_field, begin}
 use Rattle.class_machine.specs.Operations.{Operation, Do, Refer, FieldAccess, Invoke}
 use Rattle.class_machine.specs.Effect.{Effect, Ask, GetStatic, CallStatic, Leave}
 use Rattle.class_machine.specs.Effect as effects
-use Rattle.class_machine.specs.Answers.{Reply, of_type, declared_name, get_static}
+use Rattle.class_machine.specs.Answers.{of_type, declared_name, get_static}
 use Rattle.class_machine.specs.Declarations.{output_field}
 use Rattle.class_machine.specs.Start.{output}
-use Rattle.class_machine.specs.Turn.{Entry, Code, Ordinary, Frame, Turn, Enters, Leaves, stops, Needs, Refused, filled, own_initialiser, initialisers, pending, stays, completes, replied, initialised, linked, resolved, effect_at, executed, turn, static_field, static_method, callable, entry_fits, taken, with_method, runs, enters, enter_at, call_on, runs_selected, selection, instance_method}
-use Rattle.woven_calls.specs.Laws.Tables.{println, println_method, system_out, own_found, Knows}
+use Rattle.class_machine.specs.Turn.{Entry, Code, Ordinary, Frame, Turn, Enters, Leaves, stops, Needs, Refused, filled, own_initialiser, initialisers, pending, stays, completes, replied, initialised, linked, resolved, effect_at, executed, turn, static_field, static_method, entry_fits, taken, with_method, runs, enters, call_on, runs_selected, instance_method}
+use Rattle.woven_calls.specs.Laws.Tables.{println, println_method, own_found, Knows}
 
 -- ---- the instructions of the form
 

@@ -20,7 +20,7 @@ use Rattle.class_heads.specs.declared.types.FieldHead.{FieldHead}
 use Rattle.class_heads.specs.declared.types.MethodHead.{MethodHead}
 use Rattle.class_heads.specs.declared.types.ClassHead.{ClassHead}
 use Rattle.class_heads.specs.Heads.{class_name_at, field_head, method_head, head_of}
-use Rattle.class_heads.specs.Searches.{same_name, method_position}
+use Rattle.class_heads.specs.Searches.{same_name}
 use Rattle.class_machine.specs.declared.kinds.Mode.{Mode}
 use Rattle.class_machine.specs.Operations.{Invoke}
 use Rattle.class_machine.specs.Declarations.{member_name}
@@ -42,7 +42,6 @@ use Rattle.woven_calls.specs.Laws.Methods.{form_name, form_descriptor}
 use Rattle.woven_calls.specs.Laws.Starts.{behaves}
 
 -- ---- what the form says
-
 
 -- the aspect's name is an identifier, and its text printable
 aspect_form : (a : FirstAspect) → IsTrue (is_first_aspect a) → IsTrue (is_identifier a.name) × IsTrue (is_printable_text a.text)
