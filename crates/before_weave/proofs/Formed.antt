@@ -66,26 +66,26 @@ module _ (major : ℕ) (pool : List PoolEntry) (a : FirstAspect) (few : length p
   with_call false i rest = call ∷ i ∷ rest
 
   -- the instructions of the woven code
-  abbrev woven_insns : List Insn → List Insn
-  woven_insns [] = []
-  woven_insns (i ∷ insns) = with_call (is_unadvised pool a i) i (woven_insns insns)
+  abbrev woven_insns : List ℕ → List Insn → List Insn
+  woven_insns code [] = []
+  woven_insns code (i ∷ insns) = with_call (is_unadvised pool code a i) i (woven_insns code insns)
 
   one_spelled : (b : Bool) (i : Insn) (rest : List Insn) → (unless b (spelling call) ++ spelling i) ++ flat_map spelling rest ≡ flat_map spelling (with_call b i rest)
   one_spelled true i rest = refl
   one_spelled false i rest = append_assoc (spelling call) (spelling i) (flat_map spelling rest)
 
-  woven_spelled : (insns : List Insn) → flat_map (woven_insn pool a (call_index pool)) insns ≡ flat_map spelling (woven_insns insns)
-  woven_spelled [] = refl
-  woven_spelled (i ∷ insns) = ap (λ l. woven_insn pool a (call_index pool) i ++ l) (woven_spelled insns) ∙ one_spelled (is_unadvised pool a i) i (woven_insns insns)
+  woven_spelled : (code : List ℕ) (insns : List Insn) → flat_map (woven_insn pool code a (call_index pool)) insns ≡ flat_map spelling (woven_insns code insns)
+  woven_spelled code [] = refl
+  woven_spelled code (i ∷ insns) = ap (λ l. woven_insn pool code a (call_index pool) i ++ l) (woven_spelled code insns) ∙ one_spelled (is_unadvised pool code a i) i (woven_insns code insns)
 
   one_holds : (P : Insn → Type 0) (b : Bool) (i : Insn) (rest : List Insn) → P call → P i → AllByRecursion P rest → AllByRecursion P (with_call b i rest)
   one_holds P true i rest c p ps = (p, ps)
   one_holds P false i rest c p ps = (c, (p, ps))
 
   -- what holds of the call and of each instruction holds of each woven one
-  all_hold : (P : Insn → Type 0) → P call → (insns : List Insn) → AllByRecursion P insns → AllByRecursion P (woven_insns insns)
-  all_hold P c [] ps = tt
-  all_hold P c (i ∷ insns) ps = one_holds P (is_unadvised pool a i) i (woven_insns insns) c ps.0 (all_hold P c insns ps.1)
+  all_hold : (P : Insn → Type 0) → P call → (code : List ℕ) (insns : List Insn) → AllByRecursion P insns → AllByRecursion P (woven_insns code insns)
+  all_hold P c code [] ps = tt
+  all_hold P c code (i ∷ insns) ps = one_holds P (is_unadvised pool code a i) i (woven_insns code insns) c ps.0 (all_hold P c code insns ps.1)
 
   call_operand : has_operand major longer call ≡ true
   call_operand = ap (is_some_that is_method_entry) (slot pool a 5 (call_index pool) (omega arith))
@@ -98,18 +98,18 @@ module _ (major : ℕ) (pool : List PoolEntry) (a : FirstAspect) (few : length p
       let some = plain.some in
       let short = plain.few in
       let old : length code.code ≡ length (flat_map spelling w.insns) = ap length w.before in
-      let new : length bytes ≡ length (flat_map (woven_insn pool a (call_index pool)) w.insns) = ap length w.after in
-      let less = grown pool a (call_index pool) w.insns w.single in
-      let more = not_shrunk pool a (call_index pool) w.insns in
+      let new : length bytes ≡ length (flat_map (woven_insn pool code.code a (call_index pool)) w.insns) = ap length w.after in
+      let less = grown pool code.code a (call_index pool) w.insns w.single in
+      let more = not_shrunk pool code.code a (call_index pool) w.insns in
       let passes = all_pass (is_form_insn pool own names) code.code (length code.code) 0 w.insns w.single w.before parts.1 in
       let operands = operands_of major pool code w.insns w.single w.before sound in
-      straight_is_sound major longer (coded code.max_stack code.max_locals bytes code) (woven_insns w.insns)
-      (all_hold (λ i. IsInsn i × IsSingle i) (call_is_insn pool few, tt) w.insns w.single)
-      (w.after ∙ woven_spelled w.insns)
+      straight_is_sound major longer (coded code.max_stack code.max_locals bytes code) (woven_insns code.code w.insns)
+      (all_hold (λ i. IsInsn i × IsSingle i) (call_is_insn pool few, tt) code.code w.insns w.single)
+      (w.after ∙ woven_spelled code.code w.insns)
       (and_from (leb 1 (length bytes)) (ltb (length bytes) 65536) (le-leb 1 (length bytes) (omega arith)) (lt-ltb (length bytes) 65536 (omega arith)))
       plain.entries
-      (all_hold (λ i. leads_on i ≡ true) refl w.insns (each_weaker (λ i. is_form_insn pool own names i ≡ true) (λ i. leads_on i ≡ true) w.insns (leads pool own names) passes))
-      (all_hold (λ i. has_operand major longer i ≡ true) call_operand w.insns (each_weaker (λ i. has_operand major pool i ≡ true) (λ i. has_operand major longer i ≡ true) w.insns (pool_grows-operand pool longer grows major) operands))
+      (all_hold (λ i. leads_on i ≡ true) refl code.code w.insns (each_weaker (λ i. is_form_insn pool own names i ≡ true) (λ i. leads_on i ≡ true) w.insns (leads pool own names) passes))
+      (all_hold (λ i. has_operand major longer i ≡ true) call_operand code.code w.insns (each_weaker (λ i. has_operand major pool i ≡ true) (λ i. has_operand major longer i ≡ true) w.insns (pool_grows-operand pool longer grows major) operands))
 
   woven_code_sound : (code : CodeAttr) (bytes : List ℕ) → IsWovenCode pool a (call_index pool) code.code bytes → has_form_code pool own names code ≡ true → code_is_sound major pool code ≡ true
       → code_is_sound major longer (coded code.max_stack code.max_locals bytes code) ≡ true

@@ -1,7 +1,8 @@
 -- What the form of a class says of its parts.
 use Rattle.std.proofs.Common.{◌≡◌, ℕ, zero, suc, ◌+◌, ◌<◌, ◌≤◌, Bool, true, eqb, ltb, leb, ◌&&◌, List, [], ◌∷◌, length, Ok, Err, refl, sym, ap, ◌∙◌, arith, ⊎_elim}
 use Rattle.std.specs.Prelude.{codes}
-use Rattle.std.specs.List.{list_all}
+use Rattle.std.specs.Str.{bytes_eq}
+use Rattle.std.specs.List.{list_all, list_any}
 use Rattle.std.proofs.lemmas.Bool.{eqb-true, ltb-true, leb-true, and_parts, and_from, or_cases, or_left, or_right}
 use Rattle.std.proofs.lemmas.List.{nil_from_length}
 use Rattle.opcode_table.specs.declared.insn.Insn.{Insn}
@@ -15,14 +16,15 @@ use Rattle.class_file.specs.declared.types.Content.{Content}
 use Rattle.class_file.specs.declared.types.Content.TheVariants as content
 use Rattle.class_file.specs.declared.types.CodeAttr.{CodeAttr}
 use Rattle.class_file.specs.Text.{within}
-use Rattle.class_file.specs.Pool.{this_name, text_at}
+use Rattle.class_file.specs.Pool.{Reference, this_name, text_at}
 use Rattle.class_file.specs.Range.{is_writable}
 use Rattle.class_file.specs.Sound.{is_some_that, pool_is_sound}
-use Rattle.class_file.specs.FirstForm.{is_first_form, has_short_lists, has_form_names, has_form_methods, has_form_flags, is_form_method, is_form_attribute, is_form_content, has_form_code, is_form_insn, is_identifier, is_text, is_single, is_plain_code, no_arguments, insns_pass, step_passes, method_names, own_name, are_distinct}
+use Rattle.class_file.specs.FirstForm.{is_first_form, has_short_lists, has_form_names, has_form_methods, has_form_flags, is_form_method, is_form_attribute, is_form_content, has_form_code, is_form_insn, is_own_method, is_identifier, is_text, is_single, is_plain_code, no_arguments, insns_pass, step_passes, method_names, own_name, are_distinct}
 use Rattle.class_file.specs.FirstFormLaws.{well_formed_is_writable, well_formed_is_sound}
 use Rattle.class_file.specs.WellFormed.{is_well_formed}
 use Rattle.woven_calls.specs.Woven.{with_code}
 use Rattle.woven_calls.specs.Laws.Grows.{all_still}
+use Rattle.woven_calls.specs.Laws.Methods.{own_identifier}
 use Rattle.before_weave.specs.Walk.{has_no_table, is_straight, is_straight_content, is_straight_method}
 
 -- ---- the parts of the form of a class
@@ -87,6 +89,17 @@ pub form_code : (pool : List PoolEntry) (own : List ℕ) (names : List (List ℕ
 form_code pool own names o name code form e =
     let single : is_single (is_form_attribute pool own names) (with_code name code) ≡ true = ap (is_single (is_form_attribute pool own names)) (sym e) ∙ (method_parts pool own names o form).single in
     (and_parts (is_text pool (codes "Code") name) (has_form_code pool own names code) single).1
+
+-- its instructions are of the form
+pub code_passes : (pool : List PoolEntry) (own : List ℕ) (names : List (List ℕ)) (o : Member) (name : ℕ) (code : CodeAttr) → is_form_method pool own names o ≡ true → o.attributes ≡ with_code name code → insns_pass (is_form_insn pool own names) code.code (length code.code) 0 ≡ true
+code_passes pool own names o name code form e = (and_parts (is_plain_code code) (insns_pass (is_form_insn pool own names) code.code (length code.code) 0) (form_code pool own names o name code form e)).1
+
+-- the class's own methods have identifiers as their names
+pub own_call : (c : ClassFile) → is_first_form c ≡ true → (r : Reference) → is_own_method (own_name (this_name c)) (method_names c) r ≡ true → is_identifier r.member.name ≡ true
+own_call c h r passes =
+    let outer = and_parts (bytes_eq r.class (own_name (this_name c))) (list_any (bytes_eq r.member.name) (method_names c) && bytes_eq r.member.descriptor no_arguments) passes in
+    let inner = and_parts (list_any (bytes_eq r.member.name) (method_names c)) (bytes_eq r.member.descriptor no_arguments) outer.1 in
+    own_identifier c.pool (own_name (this_name c)) (method_names c) r.member.name c.methods (form_methods c h) inner.0
 
 pub record PlainParts (code : CodeAttr) : Type 0 where
   pub entries : code.entries ≡ []

@@ -125,37 +125,37 @@ unless_bytes : (b : Bool) (call : List ℕ) → are_bytes call ≡ true → are_
 unless_bytes true call e = refl
 unless_bytes false call e = e
 
-module _ (pool : List PoolEntry) (a : FirstAspect) (index : ℕ) where
-  pub grown : (insns : List Insn) → AllByRecursion (λ i. IsInsn i × IsSingle i) insns → length (flat_map (woven_insn pool a index) insns) ≤ 4 * length (flat_map spelling insns)
+module _ (pool : List PoolEntry) (code : List ℕ) (a : FirstAspect) (index : ℕ) where
+  pub grown : (insns : List Insn) → AllByRecursion (λ i. IsInsn i × IsSingle i) insns → length (flat_map (woven_insn pool code a index) insns) ≤ 4 * length (flat_map spelling insns)
   grown [] s = omega arith
   grown (i ∷ insns) s =
       let call : List ℕ = spelling (insn.Pool 184 index) in
-      let few = unless_length (is_unadvised pool a i) call (call_length index) in
+      let few = unless_length (is_unadvised pool code a i) call (call_length index) in
       let some = spelled_some i s.0.1 in
       let rest = grown insns s.1 in
-      let l1 = length-append (woven_insn pool a index i) (flat_map (woven_insn pool a index) insns) in
-      let l2 = length-append (unless (is_unadvised pool a i) call) (spelling i) in
+      let l1 = length-append (woven_insn pool code a index i) (flat_map (woven_insn pool code a index) insns) in
+      let l2 = length-append (unless (is_unadvised pool code a i) call) (spelling i) in
       let l3 = length-append (spelling i) (flat_map spelling insns) in
       omega arith
 
-  pub not_shrunk : (insns : List Insn) → length (flat_map spelling insns) ≤ length (flat_map (woven_insn pool a index) insns)
+  pub not_shrunk : (insns : List Insn) → length (flat_map spelling insns) ≤ length (flat_map (woven_insn pool code a index) insns)
   not_shrunk [] = omega arith
   not_shrunk (i ∷ insns) =
       let rest = not_shrunk insns in
-      let l1 = length-append (woven_insn pool a index i) (flat_map (woven_insn pool a index) insns) in
-      let l2 = length-append (unless (is_unadvised pool a i) (spelling (insn.Pool 184 index))) (spelling i) in
+      let l1 = length-append (woven_insn pool code a index i) (flat_map (woven_insn pool code a index) insns) in
+      let l2 = length-append (unless (is_unadvised pool code a i) (spelling (insn.Pool 184 index))) (spelling i) in
       let l3 = length-append (spelling i) (flat_map spelling insns) in
       omega arith
 
-  still_bytes : (insns : List Insn) → are_bytes (flat_map spelling insns) ≡ true → are_bytes (flat_map (woven_insn pool a index) insns) ≡ true
+  still_bytes : (insns : List Insn) → are_bytes (flat_map spelling insns) ≡ true → are_bytes (flat_map (woven_insn pool code a index) insns) ≡ true
   still_bytes [] h = refl
   still_bytes (i ∷ insns) h =
       let call : List ℕ = spelling (insn.Pool 184 index) in
       let parts = and_parts (are_bytes (spelling i)) (are_bytes (flat_map spelling insns)) (sym (list_all-append is_u1 (spelling i) (flat_map spelling insns)) ∙ h) in
-      list_all-append is_u1 (woven_insn pool a index i) (flat_map (woven_insn pool a index) insns)
-      ∙ both (are_bytes (woven_insn pool a index i)) (are_bytes (flat_map (woven_insn pool a index) insns))
-      (list_all-append is_u1 (unless (is_unadvised pool a i) call) (spelling i)
-      ∙ both (are_bytes (unless (is_unadvised pool a i) call)) (are_bytes (spelling i)) (unless_bytes (is_unadvised pool a i) call (call_bytes index)) parts.0)
+      list_all-append is_u1 (woven_insn pool code a index i) (flat_map (woven_insn pool code a index) insns)
+      ∙ both (are_bytes (woven_insn pool code a index i)) (are_bytes (flat_map (woven_insn pool code a index) insns))
+      (list_all-append is_u1 (unless (is_unadvised pool code a i) call) (spelling i)
+      ∙ both (are_bytes (unless (is_unadvised pool code a i) call)) (are_bytes (spelling i)) (unless_bytes (is_unadvised pool code a i) call (call_bytes index)) parts.0)
       (still_bytes insns parts.1)
 
 abbrev plain_code : ℕ → ℕ → List ℕ → CodeAttr
@@ -204,10 +204,10 @@ module _ (pool : List PoolEntry) (a : FirstAspect) (index : ℕ) (own : List ℕ
   woven_code_fits name code bytes parts plain w =
       let few = plain.few in
       let old : length code.code ≡ length (flat_map spelling w.insns) = ap length w.before in
-      let new : length bytes ≡ length (flat_map (woven_insn pool a index) w.insns) = ap length w.after in
-      let more = grown pool a index w.insns w.single in
+      let new : length bytes ≡ length (flat_map (woven_insn pool code.code a index) w.insns) = ap length w.after in
+      let more = grown pool code.code a index w.insns w.single in
       let short : length bytes ≤ 4000 = omega arith in
-      let are : are_bytes bytes ≡ true = ap are_bytes w.after ∙ still_bytes pool a index w.insns (ap are_bytes (sym w.before) ∙ parts.bytes) in
+      let are : are_bytes bytes ≡ true = ap are_bytes w.after ∙ still_bytes pool code.code a index w.insns (ap are_bytes (sym w.before) ∙ parts.bytes) in
       ap (λ e. counted_fits attribute_fits (with_code name (record { max_stack = code.max_stack; max_locals = code.max_locals; code = bytes; entries = e; attributes = code.attributes }))) plain.entries
       ∙ ap (λ t. counted_fits attribute_fits (with_code name (record { max_stack = code.max_stack; max_locals = code.max_locals; code = bytes; entries = []; attributes = t }))) plain.attributes
       ∙ plain_fits name code.max_stack code.max_locals bytes parts.name_fits parts.stack parts.locals are short

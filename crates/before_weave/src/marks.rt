@@ -4,7 +4,7 @@ ghost use Rattle.std.specs.Prelude.{◌≡◌, ◌&&◌, IfOk, option_copied};
 ghost use Rattle.std.specs.Str.{bytes_eq};
 ghost use Rattle.class_file.specs.Pool.{entry_at, text_at, class_at, named_type_at};
 ghost use Rattle.class_file.specs.Sound.{is_some_that};
-ghost use Rattle.jp_model.specs.Classes.{no_parameters};
+ghost use Rattle.jp_model.specs.JoinPoints.{no_parameters};
 ghost use Rattle.before_weave.specs.Marks.{is_match, marks_of, is_marked, is_advised};
 
 use class_file::PoolEntry;

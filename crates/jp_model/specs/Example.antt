@@ -2,7 +2,7 @@
 --     class C { static void m() { System.out.println("m"); }  static void main() { m(); } }
 -- as a class file, and the aspect
 --     aspect T { before(): call(void C.m()) { System.out.println("a"); } }
-use Rattle.std.specs.Prelude.{ℕ, List, [], ◌∷◌, codes}
+use Rattle.std.specs.Prelude.{ℕ, true, false, List, [], ◌∷◌, codes, None}
 use Rattle.class_file.specs.declared.pool.PoolEntry.{PoolEntry}
 use Rattle.class_file.specs.declared.pool.PoolEntry.TheVariants as entry
 use Rattle.class_file.specs.declared.types.ClassFile.{ClassFile}
@@ -10,8 +10,9 @@ use Rattle.class_file.specs.declared.types.Member.{Member}
 use Rattle.class_file.specs.declared.types.Content.TheVariants as content
 use Rattle.class_file.specs.declared.types.CodeAttr.{CodeAttr}
 use Rattle.class_file.specs.Pool.{Reference}
+use Rattle.class_machine.specs.Classes.{reference, Method}
 use Rattle.jp_model.specs.declared.first_aspect.FirstAspect.{FirstAspect}
-use Rattle.jp_model.specs.Classes.{Method, reference, no_parameters}
+use Rattle.jp_model.specs.JoinPoints.{no_parameters}
 
 abbrev pub example_pool : List PoolEntry
 example_pool =
@@ -60,7 +61,7 @@ abbrev pub main_reference : Reference
 main_reference = reference (codes "C") (codes "main") no_parameters
 
 abbrev pub main_method : Method
-main_method = record { pool = example_pool; code = main_code }
+main_method = record { name = main_reference; is_static = true; is_private = false; is_synchronized = false; is_native = false; rule = None }
 
 abbrev pub example_aspect : FirstAspect
 example_aspect = record { name = codes "T"; class = codes "C"; method = codes "m"; text = codes "a" }

@@ -1,5 +1,5 @@
 -- What weaving promises of the classes that it writes.
-use Rattle.std.specs.Prelude.{◌≡◌, ◌≢◌, ℕ, ◌+◌, ◌-◌, ◌*◌, ◌/◌, ◌%◌, ◌==◌, ◌&&◌, if◌then◌else◌, not, Bool, true, false, IsTrue, List, [], ◌∷◌, ◌++◌, length, map, codes, Option, Some, None, slice_get, Ok}
+use Rattle.std.specs.Prelude.{◌≡◌, ◌≢◌, ℕ, ◌+◌, ◌-◌, ◌*◌, ◌/◌, ◌%◌, ◌==◌, ◌&&◌, if◌then◌else◌, not, Bool, true, false, IsTrue, List, [], ◌∷◌, ◌++◌, length, map, codes, Option, Some, None, slice_get, Ok, option_and_then}
 use Rattle.std.specs.List.{filter, AllZip, AllByRecursion, starts_with}
 use Rattle.event_machine.specs.Equivalent.{Equivalent}
 use Rattle.event_machine.specs.Observation.{IsPrefix}
@@ -11,37 +11,53 @@ use Rattle.class_file.specs.declared.types.Member.{Member}
 use Rattle.class_file.specs.declared.types.Attribute.{Attribute}
 use Rattle.class_file.specs.declared.types.Content.{Content}
 use Rattle.class_file.specs.declared.types.Content.TheVariants as content
+use Rattle.class_file.specs.declared.types.CodeAttr.{CodeAttr}
 use Rattle.class_file.specs.Spelling.{spelling}
 use Rattle.class_file.specs.Text.{within}
 use Rattle.class_file.specs.WellFormed.{is_well_formed}
-use Rattle.class_file.specs.Pool.{Reference, this_name, super_name, text_at}
-use Rattle.jp_model.specs.Values.{object_class}
-use Rattle.jp_model.specs.Events.{is_broken}
+use Rattle.class_file.specs.Pool.{this_name, super_name, text_at}
+use Rattle.class_heads.specs.Heads.{head_of}
+use Rattle.class_machine.specs.Values.{object_class}
+use Rattle.class_machine.specs.Events.{is_broken, Answer}
+use Rattle.class_machine.specs.Classes.{Method}
+use Rattle.class_machine.specs.Start.{EntryArgument, entry_among}
+use Rattle.class_machine.specs.Declarations.{method_found}
+use Rattle.class_machine.specs.ClassFiles.{code_of, with_pool, file_named, line_at}
+use Rattle.class_machine.specs.Run.{class_table, class_step, class_start}
 use Rattle.jp_model.specs.Aspects.{Aspect}
 use Rattle.jp_model.specs.JoinPoints.{chain_of}
 use Rattle.jp_model.specs.JoinPointMachine.{aspect_step, aspect_start}
-use Rattle.jp_model.specs.Classes.{Method, method_of, method_named, line_at, entry_of, no_parameters, class_step, class_start}
 
 -- ---- every run
 
--- the method is an entry method of the classes: a static one, without parameters, with this code
-pub record IsEntry (classes : List ClassFile) (r : Reference) (m : Method) : Type 0 where
-  pub found : method_named classes r ≡ Some m
-  pub parameters : r.member.descriptor ≡ no_parameters
-  pub ordinary : r.member.name ≢ codes "<clinit>"
+-- the methods that a class declares, in their order
+abbrev pub methods_of : ClassFile → List Method
+methods_of c = map (method_found None (head_of c)) (head_of c).methods
 
--- The written classes have the entry method, and from it they print and end exactly as and when the
--- join point machine does on the original classes and aspects.
-pub record RunsAlike (classes : List ClassFile) (aspects : List Aspect) (written : List ClassFile) (r : Reference) (m : Method) : Type 0 where
+-- the entry method of this name in the class of this name: its first static method of the name that takes the arguments
+abbrev pub entry_in : List ClassFile → List ℕ → List ℕ → List EntryArgument → Option Method
+entry_in classes class name words =
+    option_and_then (λ c. entry_among (class_table classes) name words (methods_of c)) (file_named classes class)
+
+-- these words name an entry method of the classes: a static one, no class initialiser, and arguments that it takes
+pub record IsEntry (classes : List ClassFile) (class name : List ℕ) (words : List EntryArgument) (m : Method) : Type 0 where
+  pub found : entry_in classes class name words ≡ Some m
+  pub ordinary : name ≢ codes "<clinit>"
+
+-- The written classes have the entry method, and from it they print, call natives and end exactly as and when the join
+-- point machine does on the original classes and aspects, whatever a script answers to native calls.
+pub record RunsAlike (classes : List ClassFile) (aspects : List Aspect) (written : List ClassFile) (class name : List ℕ) (words : List EntryArgument) (m : Method) : Type 0 where
   pub method : Method
-  pub found : method_named written r ≡ Some method
-  pub same : Equivalent is_broken
-      (aspect_step classes aspects) (aspect_start classes (entry_of r m))
-      (class_step written) (class_start written (entry_of r method))
+  pub found : entry_in written class name words ≡ Some method
+  pub same : (answers : List Answer) → Equivalent is_broken
+      (aspect_step classes aspects) (aspect_start classes answers m words)
+      (class_step written) (class_start written answers method words)
 
--- from every entry method
+-- from every entry method, with all arguments and for all native answers
 abbrev pub Behaves : List ClassFile → List Aspect → List ClassFile → Type 0
-Behaves classes aspects written = (r : Reference) (m : Method) → IsEntry classes r m → RunsAlike classes aspects written r m
+Behaves classes aspects written =
+    (class name : List ℕ) (words : List EntryArgument) (m : Method) → IsEntry classes class name words m
+    → RunsAlike classes aspects written class name words m
 
 -- ---- the written files
 
@@ -112,8 +128,8 @@ pub data IsStart (code : List ℕ) : ℕ → Type 0 where
 -- no place of a method of the class has a chain
 abbrev pub IsUntouched : List Aspect → ClassFile → Type 0
 IsUntouched aspects c =
-    (place : ℕ) (m : Member) (method : Method) (pc : ℕ) → slice_get c.methods place ≡ Some m → method_of c m ≡ Some method
-    → IsStart method.code.code pc → chain_of aspects (line_at pc method) ≡ []
+    (place : ℕ) (m : Member) (code : CodeAttr) (pc : ℕ) → slice_get c.methods place ≡ Some m → code_of m ≡ Some code
+    → IsStart code.code pc → chain_of aspects (line_at pc (with_pool c code)) ≡ []
 
 abbrev pub KeepsUntouched : List Aspect → ClassFile → ClassFile → Type 0
 KeepsUntouched aspects c written = IsUntouched aspects c → spelling written ≡ spelling c

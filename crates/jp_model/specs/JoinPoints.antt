@@ -1,24 +1,24 @@
 -- Where the join points are, and which advice is in their chains (the appendix "Language Semantics"
 -- of the AspectJ Programming Guide; Hilsdale and Hugunin, "Advice Weaving in AspectJ", 2004).
-use Rattle.std.specs.Prelude.{◌&&◌, Bool, List, [], Option, Some, None}
+use Rattle.std.specs.Prelude.{ℕ, ◌&&◌, if◌then◌else◌, Bool, List, [], Option, Some, None, codes}
 use Rattle.std.specs.List.{filter, flat_map}
 use Rattle.std.specs.Str.{bytes_eq}
 use Rattle.class_file.specs.Pool.{Reference}
-use Rattle.jp_model.specs.Effect.{Operation, DoNothing, Constant, GetStatic, InvokeStatic, InvokeVirtual, Return}
-use Rattle.jp_model.specs.Machine.{Code}
+use Rattle.class_machine.specs.Classes.{is_constructor}
+use Rattle.class_machine.specs.Operations.{Operation, Invoke}
+use Rattle.class_machine.specs.Turn.{Code}
 use Rattle.jp_model.specs.Aspects.{CallPattern, Advice, Aspect}
-use Rattle.jp_model.specs.Classes.{no_parameters}
 
--- The method that an instruction calls, where it is a call join point: each invoke instruction is one
--- whose method is no constructor. Of these forms none can name a constructor in code that is built:
--- its name is no identifier.
+-- The method that an instruction calls, where it is a call join point: each invoke instruction is one whose method is no
+-- constructor. Code that is built beside an aspect calls static methods of its own class and println alone, so no call of
+-- it is one of a superclass's method, of a synthetic method or on an array, which would be none.
 abbrev pub call_at : Operation → Option Reference
-call_at DoNothing = None
-call_at (Constant held) = None
-call_at (GetStatic field) = None
-call_at (InvokeStatic method) = Some method
-call_at (InvokeVirtual method) = Some method
-call_at Return = None
+call_at (Invoke mode method) = if is_constructor method then None else Some method
+call_at _ = None
+
+-- the descriptor of a method without parameters and result
+abbrev pub no_parameters : List ℕ
+no_parameters = codes "()V"
 
 -- The pattern matches the signature of the method that is called: class, name, no parameters, no
 -- result. A name of one part is that of a class of the default package.

@@ -1,8 +1,3 @@
-pub mod Values
-pub mod Events
-pub mod Effect
-pub mod Machine
-pub mod Classes
 pub mod Aspects
 pub mod JoinPoints
 pub mod JoinPointMachine

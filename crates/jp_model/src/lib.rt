@@ -1,5 +1,5 @@
-//! The meaning of class files and of aspects: the class machine, which runs classes, and the join
-//! point machine, which runs classes under aspects. The definitions stand in `specs/`.
+//! The meaning of aspects: the join point machine, which runs classes under aspects by the turns of
+//! the class machine, and what a weaving promises. The definitions stand in `specs/`.
 #![tactic(auto)]
 
 mod first_aspect;

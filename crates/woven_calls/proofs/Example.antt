@@ -1,5 +1,5 @@
 -- The worked example, woven by hand: what its run shows, and that the laws speak of it.
-use Rattle.std.proofs.Common.{◌≡◌, ℕ, List, [], ◌∷◌, ◌++◌, Some, None, refl, sym, ap, arith, true≢false}
+use Rattle.std.proofs.Common.{◌≡◌, ℕ, List, [], ◌∷◌, ◌++◌, Some, None, refl, sym, ap, arith, true≢false, codes}
 use Rattle.event_machine.specs.Observation.{Observation, observed}
 use Rattle.opcode_table.specs.declared.insn.Insn.TheVariants as insn
 use Rattle.opcode_table.specs.Decoding.{decoded}
@@ -8,12 +8,13 @@ use Rattle.opcode_table.specs.Table.{opcode}
 use Rattle.class_file.specs.declared.types.ClassFile.{ClassFile}
 use Rattle.class_file.specs.declared.types.CodeAttr.{CodeAttr}
 use Rattle.class_file.specs.Pool.{this_name}
-use Rattle.jp_model.specs.Events.{Event, Print, Ending, Returned}
-use Rattle.jp_model.specs.Classes.{Method, is_named, method_named, entry_of, class_step, class_start}
+use Rattle.class_machine.specs.Events.{Event, Print, Ending, Returned}
+use Rattle.class_machine.specs.ClassFiles.{is_named}
+use Rattle.class_machine.specs.Run.{class_step, class_start}
 use Rattle.jp_model.specs.AspectText.{aspect_of}
 use Rattle.jp_model.specs.JoinPointMachine.{aspect_step, aspect_start}
-use Rattle.jp_model.specs.Headline.{AreApart, Behaves}
-use Rattle.jp_model.specs.Example.{example_pool, example_code, example_method, printing_code, main_code, example_class, main_reference, main_method, example_aspect}
+use Rattle.jp_model.specs.Headline.{AreApart, entry_in, Behaves}
+use Rattle.jp_model.specs.Example.{example_pool, example_code, example_method, printing_code, main_code, example_class, main_method, example_aspect}
 use Rattle.woven_calls.specs.Woven.{IsWovenCode, call_entries, call_index, IsWovenClass, Woven, aspect_class}
 use Rattle.woven_calls.specs.Laws.{woven_behaves}
 
@@ -38,15 +39,12 @@ woven_class = record {
 abbrev written : List ClassFile
 written = woven_class ∷ aspect_class example_aspect ∷ []
 
-abbrev woven_method : Method
-woven_method = record { pool = example_pool ++ call_entries example_pool example_aspect; code = woven_main }
-
-woven_found : method_named written main_reference ≡ Some woven_method
+woven_found : entry_in written (codes "C") (codes "main") [] ≡ Some main_method
 woven_found = refl
 
 -- what the woven classes show within so many steps
 abbrev woven : ℕ → Observation Event Ending
-woven n = observed (class_step written) n (class_start written (entry_of main_reference woven_method))
+woven n = observed (class_step written) n (class_start written [] main_method [])
 
 abbrev both : List Event
 both = Print (97 ∷ 10 ∷ []) ∷ Print (109 ∷ 10 ∷ []) ∷ []
@@ -60,7 +58,7 @@ unfolding decoded opcode
 woven_goes = refl
 
 -- so does the join point machine on the class and the aspect
-advised_shows : observed (aspect_step (example_class ∷ []) (aspect_of example_aspect ∷ [])) 10 (aspect_start (example_class ∷ []) (entry_of main_reference main_method)) ≡ woven 11
+advised_shows : observed (aspect_step (example_class ∷ []) (aspect_of example_aspect ∷ [])) 10 (aspect_start (example_class ∷ []) [] main_method []) ≡ woven 11
 unfolding decoded opcode
 advised_shows = refl
 

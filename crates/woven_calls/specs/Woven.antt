@@ -15,7 +15,7 @@ use Rattle.class_file.specs.declared.types.CodeAttr.{CodeAttr}
 use Rattle.jp_model.specs.declared.first_aspect.FirstAspect.{FirstAspect}
 use Rattle.jp_model.specs.AspectText.{aspect_of}
 use Rattle.jp_model.specs.JoinPoints.{chain_of}
-use Rattle.jp_model.specs.Classes.{operation}
+use Rattle.class_machine.specs.ClassFiles.{operation}
 
 -- the name of the method that holds the advice's body
 abbrev pub advice_name : List ℕ
@@ -31,20 +31,20 @@ unless false bytes = bytes
 
 -- ---- code
 
--- no advice applies at the instruction
-abbrev pub is_unadvised : List PoolEntry → FirstAspect → Insn → Bool
-is_unadvised pool a i = is_empty (chain_of (aspect_of a ∷ []) (operation pool i))
+-- no advice applies at the instruction of this code
+abbrev pub is_unadvised : List PoolEntry → List ℕ → FirstAspect → Insn → Bool
+is_unadvised pool code a i = is_empty (chain_of (aspect_of a ∷ []) (operation pool code i))
 
 -- an instruction, with a call of the method at the index before it where the advice applies
-abbrev pub woven_insn : List PoolEntry → FirstAspect → ℕ → Insn → List ℕ
-woven_insn pool a index i = unless (is_unadvised pool a i) (insn_spelling (insn.Pool 184 index)) ++ insn_spelling i
+abbrev pub woven_insn : List PoolEntry → List ℕ → FirstAspect → ℕ → Insn → List ℕ
+woven_insn pool code a index i = unless (is_unadvised pool code a i) (insn_spelling (insn.Pool 184 index)) ++ insn_spelling i
 
 -- The new code is the old one with the calls put in.
 pub record IsWovenCode (pool : List PoolEntry) (a : FirstAspect) (index : ℕ) (old new : List ℕ) : Type 0 where
   pub insns : List Insn
   pub single : AllByRecursion (λ i. IsInsn i × IsSingle i) insns
   pub before : old ≡ flat_map insn_spelling insns
-  pub after : new ≡ flat_map (woven_insn pool a index) insns
+  pub after : new ≡ flat_map (woven_insn pool old a index) insns
 
 -- ---- classes
 
@@ -93,7 +93,7 @@ pub record IsUnadvisedCode (pool : List PoolEntry) (a : FirstAspect) (code : Lis
   pub insns : List Insn
   pub single : AllByRecursion (λ i. IsInsn i × IsSingle i) insns
   pub spelled : code ≡ flat_map insn_spelling insns
-  pub none : AllByRecursion (λ i. IsTrue (is_unadvised pool a i)) insns
+  pub none : AllByRecursion (λ i. IsTrue (is_unadvised pool code a i)) insns
 
 -- The advice applies nowhere in the code of this method.
 pub record IsUnadvisedMethod (pool : List PoolEntry) (a : FirstAspect) (m : Member) : Type 0 where

@@ -8,8 +8,11 @@ use Rattle.class_file.specs.declared.pool.PoolEntry.TheVariants as entry
 use Rattle.class_file.specs.declared.types.Member.{Member}
 use Rattle.class_file.specs.Pool.{NamedType, Reference, entry_at, as_text, text_at, as_class, class_at, as_string, string_at, as_named_type, named_type_at, referred, as_field, field_at, as_method, method_at, member_type}
 use Rattle.jp_model.specs.declared.first_aspect.FirstAspect.{FirstAspect}
-use Rattle.jp_model.specs.Classes.{named_type, reference}
+use Rattle.class_machine.specs.Classes.{reference}
 use Rattle.woven_calls.specs.Woven.{advice_name, call_entries, call_index}
+
+abbrev pub named_type : List ℕ → List ℕ → NamedType
+named_type name descriptor = record { name = name; descriptor = descriptor }
 
 -- what is found through an option
 pub found_through : {A B : Type 0} (o : Option A) (f : A → Option B) (y : B) → option_and_then f o ≡ Some y → (x : A) × (o ≡ Some x) × (f x ≡ Some y)
@@ -20,12 +23,12 @@ found_through (Some x) f y e = (x, refl, e)
 abbrev pub Extends : List PoolEntry → List PoolEntry → Type 0
 Extends pool more = (index : ℕ) (e : PoolEntry) → entry_at pool index ≡ Some e → entry_at more index ≡ Some e
 
-slice_front : {X : Type 0} (xs ys : List X) (k : ℕ) (x : X) → slice_get xs k ≡ Some x → slice_get (xs ++ ys) k ≡ Some x
+pub slice_front : {X : Type 0} (xs ys : List X) (k : ℕ) (x : X) → slice_get xs k ≡ Some x → slice_get (xs ++ ys) k ≡ Some x
 slice_front [] ys k x e = absurd cc
 slice_front (y ∷ xs) ys zero x e = e
 slice_front (y ∷ xs) ys (suc k) x e = slice_front xs ys k x e
 
-slice_back : {X : Type 0} (xs ys : List X) (k : ℕ) → slice_get (xs ++ ys) (length xs + k) ≡ slice_get ys k
+pub slice_back : {X : Type 0} (xs ys : List X) (k : ℕ) → slice_get (xs ++ ys) (length xs + k) ≡ slice_get ys k
 slice_back [] ys k = let e : 0 + k ≡ k = omega arith in ap (slice_get ys) e
 slice_back (x ∷ xs) ys k =
     let e : length (x ∷ xs) + k ≡ suc (length xs + k) = omega arith in

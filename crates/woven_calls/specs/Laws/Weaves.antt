@@ -1,7 +1,8 @@
 -- Woven classes carry out the advice, and so do classes without a place for it as they were.
-use Rattle.std.proofs.Common.{◌≡◌, ◌≢◌, ℕ, ◌<◌, true, false, not, ◌&&◌, nat_le, bytes_eq, IsTrue, List, [], ◌∷◌, ◌++◌, length, map, Some, refl, sym, ap, ◌∙◌, subst, codes, option_and_then}
-use Rattle.std.specs.List.{list_all, AllByRecursion, AllZip}
-use Rattle.std.proofs.lemmas.Bool.{and_parts}
+use Rattle.std.proofs.Common.{◌≡◌, ◌≢◌, ℕ, ◌+◌, ◌<◌, Bool, true, false, not, ◌&&◌, nat_le, bytes_eq, IsTrue, List, [], ◌∷◌, ◌++◌, length, map, Option, Some, None, refl, sym, ap, ap₂, ◌∙◌, subst, codes, option_and_then, if◌then◌else◌}
+use Rattle.std.specs.List.{list_all, position_from, AllByRecursion, AllZip}
+use Rattle.std.specs.Option.{option_map, unwrap_or}
+use Rattle.std.proofs.lemmas.Bool.{and_parts, false_from_ne_true}
 use Rattle.opcode_table.specs.declared.insn.Insn.{Insn}
 use Rattle.opcode_table.specs.declared.insn.Insn.TheVariants as insn
 use Rattle.opcode_table.specs.Spelling.{spelling, IsInsn, IsSingle}
@@ -12,22 +13,33 @@ use Rattle.class_file.specs.declared.types.Attribute.{Attribute}
 use Rattle.class_file.specs.declared.types.Content.TheVariants as content
 use Rattle.class_file.specs.declared.types.CodeAttr.{CodeAttr}
 use Rattle.class_file.specs.Sound.{is_some_that}
-use Rattle.class_file.specs.Pool.{NamedType, text_at, this_name, member_type}
-use Rattle.class_file.specs.FirstForm.{is_identifier, is_printable_text, is_form_insn, insns_pass, is_plain_code, has_form_code, is_text, is_form_attribute, is_single, has_form_flags, is_form_method, method_names, no_arguments, is_first_form}
-use Rattle.class_file.specs.FirstFormLaws.{first_form}
+use Rattle.class_file.specs.Pool.{NamedType, text_at, class_at, this_name, super_name, member_type}
+use Rattle.class_file.specs.FirstForm.{object_class, is_identifier, is_printable_text, is_form_insn, insns_pass, is_plain_code, has_form_code, is_text, is_form_attribute, is_single, has_form_flags, is_form_method, method_names, no_arguments, is_first_form}
+use Rattle.class_file.specs.FirstFormLaws.{IsFirstForm, first_form}
+use Rattle.class_heads.specs.declared.types.FieldHead.{FieldHead}
+use Rattle.class_heads.specs.declared.types.MethodHead.{MethodHead}
+use Rattle.class_heads.specs.declared.types.ClassHead.{ClassHead}
+use Rattle.class_heads.specs.Heads.{class_name_at, field_head, method_head, head_of}
+use Rattle.class_heads.specs.Searches.{same_name}
+use Rattle.class_machine.specs.declared.kinds.Mode.{Mode}
+use Rattle.class_machine.specs.Operations.{Invoke}
+use Rattle.class_machine.specs.Declarations.{member_name}
+use Rattle.class_machine.specs.ClassFiles.{MethodCode, operation, with_pool}
 use Rattle.jp_model.specs.declared.first_aspect.FirstAspect.{FirstAspect}
 use Rattle.jp_model.specs.AspectText.{aspect_of, is_short_identifier, is_unescaped, is_literal, is_first_aspect}
 use Rattle.jp_model.specs.Aspects.{Advice}
 use Rattle.jp_model.specs.JoinPoints.{chain_of}
-use Rattle.jp_model.specs.Classes.{named_type, when_no_parameters, operation}
 use Rattle.jp_model.specs.Headline.{AreApart, Behaves}
 use Rattle.woven_calls.specs.Woven.{is_empty, unless, is_unadvised, woven_insn, IsWovenCode, call_entries, call_index, with_code, IsWovenMethod, IsWovenClass, IsUnadvisedCode, IsUnadvisedMethod, IsUnadvised, IsWovenOrKept, Woven, Kept, aspect_class}
-use Rattle.woven_calls.specs.Laws.Pools.{Extends, extends_append, extends_same, text_kept, class_kept, member_kept, call_names, call_is_insn}
+use Rattle.woven_calls.specs.Laws.Pools.{Extends, named_type, extends_append, extends_same, text_kept, class_kept, member_kept, call_names, call_is_insn}
 use Rattle.woven_calls.specs.Laws.Grows.{is_there}
-use Rattle.woven_calls.specs.Laws.Forms.{has_meaning, all_pass}
+use Rattle.woven_calls.specs.Laws.Forms.{has_meaning, all_pass, same_bytes}
 use Rattle.woven_calls.specs.Laws.AspectClass.{advice_reference}
+use Rattle.woven_calls.specs.Laws.Tables.{Plain, initialiser_type}
 use Rattle.woven_calls.specs.Laws.Places.{Written, IsCarried}
-use Rattle.woven_calls.specs.Laws.Lookups.{IsCarriedCode, IsCarriedMember, IsCarriedClass, behaves}
+use Rattle.woven_calls.specs.Laws.Lookups.{IsCarriedCode, IsCarriedMember, IsCarriedClass}
+use Rattle.woven_calls.specs.Laws.Methods.{form_name, form_descriptor}
+use Rattle.woven_calls.specs.Laws.Starts.{behaves}
 
 -- ---- what the form says
 
@@ -68,114 +80,188 @@ module _ (own : List ℕ) (methods : List (List ℕ)) (pool : List PoolEntry) (m
       let inside = and_parts (is_text pool (codes "Code") name) (has_form_code pool own methods code) one in
       (and_parts (is_plain_code code) (insns_pass (is_form_insn pool own methods) code.code (length code.code) 0) inside.1).1
 
-  -- the one attribute is named Code
-  named_code : (name : ℕ) (code : CodeAttr) → m.attributes ≡ with_code name code → is_text pool (codes "Code") name ≡ true
-  named_code name code is =
-      let one : is_form_attribute pool own methods (record { name = name; content = content.Code code }) ≡ true = subst (λ (l : List Attribute). is_single (is_form_attribute pool own methods) l ≡ true) is parts.2 in
-      (and_parts (is_text pool (codes "Code") name) (has_form_code pool own methods code) one).0
+-- ---- heads
 
--- the name of an attribute stays that in a longer pool
-named_longer : (pool more : List PoolEntry) → Extends pool more → (name : ℕ) → is_text pool (codes "Code") name ≡ true → is_text more (codes "Code") name ≡ true
-named_longer pool more longer name named =
-    let text = is_there (bytes_eq (codes "Code")) (text_at pool name) named in
-    ap (is_some_that (bytes_eq (codes "Code"))) (text_kept pool more longer name text.0 text.1) ∙ text.2
+-- a method's head under another pool, with code in place of code
+head_kept : (own : List ℕ) (names : List (List ℕ)) (pool more : List PoolEntry) (x : Member) (name name' : ℕ) (code code' : CodeAttr) → Extends pool more → is_form_method pool own names x ≡ true → x.attributes ≡ with_code name code
+    → method_head more (record { flags = x.flags; name = x.name; descriptor = x.descriptor; attributes = with_code name' code' }) ≡ method_head pool x
+head_kept own names pool more x name name' code code' longer form is =
+    let made : Option (List ℕ) → Option (List ℕ) → List Attribute → MethodHead = λ n d attributes. let h = method_head pool (record { flags = x.flags; name = x.name; descriptor = x.descriptor; attributes = attributes }) in
+    record { name = record { name = unwrap_or n []; descriptor = unwrap_or d [] }; flags = x.flags; exceptions = h.exceptions; is_synthetic = h.is_synthetic } in
+    let n = form_name pool own names x form in
+    let d = form_descriptor pool own names x form in
+    ap (λ (t : Option (List ℕ)). made t (text_at more x.descriptor) (with_code name code)) (text_kept pool more longer x.name n.0 n.1 ∙ sym n.1)
+    ∙ ap (λ (t : Option (List ℕ)). made (text_at pool x.name) t (with_code name code)) (text_kept pool more longer x.descriptor no_arguments d ∙ sym d)
+    ∙ ap (λ (l : List Attribute). made (text_at pool x.name) (text_at pool x.descriptor) l) (sym is)
+
+-- the head of a class whose names a longer pool keeps
+class_head_kept : (c : ClassFile) (f : IsFirstForm c) (more : List PoolEntry) (methods : List Member) → Extends c.pool more → map (method_head more) methods ≡ map (method_head c.pool) c.methods
+    → head_of (record { minor = c.minor; major = c.major; pool = more; flags = c.flags; this_class = c.this_class; super_class = c.super_class; interfaces = c.interfaces; fields = c.fields; methods = methods; attributes = c.attributes }) ≡ head_of c
+class_head_kept c f more methods longer same =
+    let made : Option (List ℕ) → Option (List ℕ) → List (List ℕ) → List FieldHead → List MethodHead → ClassHead = λ name super interfaces fields methods.
+    record { name = unwrap_or name []; version = c.major; flags = c.flags; super_class = super; interfaces = interfaces; fields = fields; methods = methods } in
+    let under : List PoolEntry → List (List ℕ) = λ pool. map (class_name_at pool) c.interfaces in
+    let fields : List PoolEntry → List FieldHead = λ pool. map (field_head pool) c.fields in
+    let no_interface : under more ≡ under c.pool = ap (map (class_name_at more)) f.no_interfaces ∙ sym (ap (map (class_name_at c.pool)) f.no_interfaces) in
+    let no_field : fields more ≡ fields c.pool = ap (map (field_head more)) f.no_fields ∙ sym (ap (map (field_head c.pool)) f.no_fields) in
+    ap (λ (o : Option (List ℕ)). made o (class_at more c.super_class) (under more) (fields more) (map (method_head more) methods)) (class_kept c.pool more longer c.this_class f.name f.named ∙ sym f.named)
+    ∙ ap (λ (o : Option (List ℕ)). made (this_name c) o (under more) (fields more) (map (method_head more) methods)) (class_kept c.pool more longer c.super_class object_class f.extends ∙ sym f.extends)
+    ∙ ap (λ l. made (this_name c) (super_name c) l (fields more) (map (method_head more) methods)) no_interface
+    ∙ ap (λ l. made (this_name c) (super_name c) (under c.pool) l (map (method_head more) methods)) no_field
+    ∙ ap (λ l. made (this_name c) (super_name c) (under c.pool) (fields c.pool) l) same
+
+-- no method is an initialiser
+silent_methods : (own : List ℕ) (names : List (List ℕ)) (pool : List PoolEntry) (ms : List Member) (i : ℕ) → list_all (is_form_method pool own names) ms ≡ true → position_from (λ x. same_name x.name (member_name initialiser_type)) i (map (method_head pool) ms) ≡ None
+silent_methods own names pool [] i forms = refl
+silent_methods own names pool (m ∷ ms) i forms =
+    let f = and_parts (is_form_method pool own names m) (list_all (is_form_method pool own names) ms) forms in
+    let n = form_name pool own names m f.0 in
+    let other : bytes_eq n.0 initialiser_type.name ≡ false = false_from_ne_true (bytes_eq n.0 initialiser_type.name) (λ same. let apart : true ≡ false = sym n.2 ∙ ap is_identifier (same_bytes n.0 initialiser_type.name same) in absurd cc) in
+    let rest = position_from (λ x. same_name x.name (member_name initialiser_type)) (i + 1) (map (method_head pool) ms) in
+    ap (λ (t : Option (List ℕ)). if bytes_eq (unwrap_or t []) initialiser_type.name && bytes_eq (unwrap_or (text_at pool m.descriptor) []) initialiser_type.descriptor then Some i else rest) n.1
+    ∙ ap (λ (b : Bool). if b && bytes_eq (unwrap_or (text_at pool m.descriptor) []) initialiser_type.descriptor then Some i else rest) other
+    ∙ silent_methods own names pool ms (i + 1) f.1
+
+plain_class : (c : ClassFile) → IsTrue (is_first_form c) → Plain (head_of c)
+plain_class c form =
+    let f = first_form c form in
+    record { identifier = ap (λ (o : Option (List ℕ)). is_identifier (unwrap_or o [])) f.named ∙ f.identifier; silent = silent_methods f.name (method_names c) c.pool c.methods 0 f.methods }
+
+plain_classes : (classes : List ClassFile) → AllByRecursion (λ c. IsTrue (is_first_form c)) classes → AllByRecursion Plain (map head_of classes)
+plain_classes [] forms = tt
+plain_classes (c ∷ classes) forms = (plain_class c forms.0, plain_classes classes forms.1)
 
 -- ---- woven
 
-module _ (a : FirstAspect) (own : List ℕ) (methods : List (List ℕ)) (pool : List PoolEntry) (short : length pool < 10000) where
+module _ (a : FirstAspect) (own : List ℕ) (names : List (List ℕ)) (pool : List PoolEntry) (short : length pool < 10000) where
   abbrev longer : List PoolEntry
   longer = pool ++ call_entries pool a
 
-  woven_as : (chain : List Advice) (i : Insn) → Written longer (advice_reference a) chain i (unless (is_empty chain) (spelling (insn.Pool 184 (call_index pool))) ++ spelling i)
-  woven_as [] i = refl
-  woven_as (b ∷ rest) i = record {
+  woven_as : (code' : List ℕ) (chain : List Advice) (i : Insn) → Written longer code' (advice_reference a) chain i (unless (is_empty chain) (spelling (insn.Pool 184 (call_index pool))) ++ spelling i)
+  woven_as code' [] i = refl
+  woven_as code' (b ∷ rest) i = record {
     call = insn.Pool 184 (call_index pool);
     insn = call_is_insn pool short;
     single = tt;
-    means = ap (option_and_then when_no_parameters) (call_names pool a);
+    means = ap (option_map (Invoke Mode.Static)) (call_names pool a);
     spelled = refl;
   }
 
-  woven_code : (code : CodeAttr) (bytes : List ℕ) → IsWovenCode pool a (call_index pool) code.code bytes → insns_pass (is_form_insn pool own methods) code.code (length code.code) 0 ≡ true
-      → IsCarriedCode a own pool longer code (record { max_stack = code.max_stack; max_locals = code.max_locals; code = bytes; entries = code.entries; attributes = code.attributes })
+  abbrev code_with : CodeAttr → List ℕ → CodeAttr
+  code_with code bytes = record { max_stack = code.max_stack; max_locals = code.max_locals; code = bytes; entries = code.entries; attributes = code.attributes }
+
+  abbrev under : List PoolEntry → CodeAttr → MethodCode
+  under pool code = record { pool = pool; code = code }
+
+  woven_code : (code : CodeAttr) (bytes : List ℕ) → IsWovenCode pool a (call_index pool) code.code bytes → insns_pass (is_form_insn pool own names) code.code (length code.code) 0 ≡ true
+      → IsCarriedCode a own names (under pool code) (under longer (code_with code bytes))
   woven_code code bytes x passes = record {
     stack = refl;
     locals = refl;
     insns = x.insns;
-    bytes = woven_insn pool a (call_index pool);
-    carried = zipped (λ i. IsInsn i × IsSingle i) (λ i. is_form_insn pool own methods i ≡ true) (IsCarried a own pool longer (woven_insn pool a (call_index pool)))
-        (λ i valid form. record { insn = valid.0; single = valid.1; meaning = has_meaning pool longer own methods (extends_append pool (call_entries pool a)) i form; written = woven_as (chain_of (aspect_of a ∷ []) (operation pool i)) i })
-        x.insns x.single (all_pass (is_form_insn pool own methods) code.code (length code.code) 0 x.insns x.single x.before passes);
+    bytes = woven_insn pool code.code a (call_index pool);
+    carried = zipped (λ i. IsInsn i × IsSingle i) (λ i. is_form_insn pool own names i ≡ true) (IsCarried a own names (under pool code) (under longer (code_with code bytes)) (woven_insn pool code.code a (call_index pool)))
+        (λ i valid form. record { insn = valid.0; single = valid.1; meaning = has_meaning pool longer code.code bytes own names (extends_append pool (call_entries pool a)) i form; written = woven_as bytes (chain_of (aspect_of a ∷ []) (operation pool code.code i)) i })
+        x.insns x.single (all_pass (is_form_insn pool own names) code.code (length code.code) 0 x.insns x.single x.before passes);
     before = x.before;
     after = x.after;
   }
 
-  woven_method : (m m' : Member) → is_form_method pool own methods m ≡ true → IsWovenMethod pool a (call_index pool) m m' → IsCarriedMember a own pool longer m m'
-  woven_method m m' form x =
-      let type = type_of own methods pool m form in
-      let kept = member_kept pool longer (extends_append pool (call_entries pool a)) m type.0 type.1 in
-      subst (IsCarriedMember a own pool longer m) (sym x.after) (record {
-        flags = refl;
+module _ (a : FirstAspect) (c : ClassFile) (f : IsFirstForm c) where
+  abbrev more : List PoolEntry
+  more = c.pool ++ call_entries c.pool a
+
+  abbrev grown : List Member → ClassFile
+  grown methods = record {
+    minor = c.minor;
+    major = c.major;
+    pool = more;
+    flags = c.flags;
+    this_class = c.this_class;
+    super_class = c.super_class;
+    interfaces = c.interfaces;
+    fields = c.fields;
+    methods = methods;
+    attributes = c.attributes;
+  }
+
+  abbrev Forms : Member → Type 0
+  Forms m = is_form_method c.pool f.name (method_names c) m ≡ true
+
+  woven_method : (all : List Member) (m m' : Member) → Forms m → IsWovenMethod c.pool a (call_index c.pool) m m' → IsCarriedMember a f.name (method_names c) c (grown all) m m'
+  woven_method all m m' form x =
+      let type = type_of f.name (method_names c) c.pool m form in
+      let kept = member_kept c.pool more (extends_append c.pool (call_entries c.pool a)) m type.0 type.1 in
+      subst (IsCarriedMember a f.name (method_names c) c (grown all) m) (sym x.after) (record {
         type = type.0;
         typed = type.1;
         typed' = kept;
         name = x.name;
         name' = x.name;
         code = x.code;
-        code' = _;
+        code' = record { max_stack = x.code.max_stack; max_locals = x.code.max_locals; code = x.bytes; entries = x.code.entries; attributes = x.code.attributes };
         attributes = x.before;
         attributes' = refl;
-        coded = named_code own methods pool m form x.name x.code x.before;
-        coded' = named_longer pool longer (extends_append pool (call_entries pool a)) x.name (named_code own methods pool m form x.name x.code x.before);
-        carried = woven_code x.code x.bytes x.woven (insns_of own methods pool m form x.name x.code x.before);
+        carried = woven_code a f.name (method_names c) c.pool f.few x.code x.bytes x.woven (insns_of f.name (method_names c) c.pool m form x.name x.code x.before);
       })
 
-  woven_methods : (ms ms' : List Member) → list_all (is_form_method pool own methods) ms ≡ true → AllZip (IsWovenMethod pool a (call_index pool)) ms ms' → AllZip (IsCarriedMember a own pool longer) ms ms'
-  woven_methods [] [] form all = tt
-  woven_methods [] (m' ∷ ms') form all = absurd all
-  woven_methods (m ∷ ms) [] form all = absurd all
-  woven_methods (m ∷ ms) (m' ∷ ms') form all =
-      let p = and_parts (is_form_method pool own methods m) (list_all (is_form_method pool own methods) ms) form in
-      (woven_method m m' p.0 all.0, woven_methods ms ms' p.1 all.1)
+  woven_methods : (all ms ms' : List Member) → list_all (is_form_method c.pool f.name (method_names c)) ms ≡ true → AllZip (IsWovenMethod c.pool a (call_index c.pool)) ms ms' → AllZip (IsCarriedMember a f.name (method_names c) c (grown all)) ms ms'
+  woven_methods all [] [] form each = tt
+  woven_methods all [] (m' ∷ ms') form each = absurd each
+  woven_methods all (m ∷ ms) [] form each = absurd each
+  woven_methods all (m ∷ ms) (m' ∷ ms') form each =
+      let p = and_parts (is_form_method c.pool f.name (method_names c) m) (list_all (is_form_method c.pool f.name (method_names c)) ms) form in
+      (woven_method all m m' p.0 each.0, woven_methods all ms ms' p.1 each.1)
 
-woven_class : (c w : ClassFile) (a : FirstAspect) → IsTrue (is_first_form c) → this_name c ≢ Some a.name → IsWovenClass a c w → IsCarriedClass a c w
-woven_class c w a form apart x =
-    let f = first_form c form in
-    subst (IsCarriedClass a c) (sym x.after) (record {
-      own = f.name;
-      named = f.named;
-      named' = class_kept c.pool (c.pool ++ call_entries c.pool a) (extends_append c.pool (call_entries c.pool a)) c.this_class f.name f.named;
-      identifier = f.identifier;
-      apart = λ same. apart (f.named ∙ ap Some same);
-      members = woven_methods a f.name (method_names c) c.pool f.few c.methods x.methods f.methods x.each;
-    })
+  woven_heads : (ms ms' : List Member) → list_all (is_form_method c.pool f.name (method_names c)) ms ≡ true → AllZip (IsWovenMethod c.pool a (call_index c.pool)) ms ms' → map (method_head more) ms' ≡ map (method_head c.pool) ms
+  woven_heads [] [] form each = refl
+  woven_heads [] (m' ∷ ms') form each = absurd each
+  woven_heads (m ∷ ms) [] form each = absurd each
+  woven_heads (m ∷ ms) (m' ∷ ms') form each =
+      let p = and_parts (is_form_method c.pool f.name (method_names c) m) (list_all (is_form_method c.pool f.name (method_names c)) ms) form in
+      let x = each.0 in
+      ap₂ (λ h hs. h ∷ hs)
+      (ap (method_head more) x.after ∙ head_kept f.name (method_names c) c.pool more m x.name x.name x.code (record { max_stack = x.code.max_stack; max_locals = x.code.max_locals; code = x.bytes; entries = x.code.entries; attributes = x.code.attributes }) (extends_append c.pool (call_entries c.pool a)) p.0 x.before)
+      (woven_heads ms ms' p.1 each.1)
 
--- ---- unadvised
+  woven_class : (w : ClassFile) → this_name c ≢ Some a.name → IsWovenClass a c w → IsCarriedClass a c w
+  woven_class w apart x =
+      let longer = extends_append c.pool (call_entries c.pool a) in
+      subst (IsCarriedClass a c) (sym x.after) (record {
+        own = f.name;
+        named = f.named;
+        named' = class_kept c.pool more longer c.this_class f.name f.named;
+        identifier = f.identifier;
+        apart = λ same. apart (f.named ∙ ap Some same);
+        head = class_head_kept c f more x.methods longer (woven_heads c.methods x.methods f.methods x.each);
+        methods = f.methods;
+        members = woven_methods x.methods c.methods x.methods f.methods x.each;
+      })
 
-module _ (a : FirstAspect) (own : List ℕ) (methods : List (List ℕ)) (pool : List PoolEntry) where
-  written_as : (chain : List Advice) (i : Insn) → is_empty chain ≡ true → Written pool (advice_reference a) chain i (spelling i)
-  written_as [] i none = refl
-  written_as (b ∷ rest) i none = let apart : false ≡ true = none in absurd cc
+  -- ---- unadvised
 
-  unadvised_code : (code : CodeAttr) → IsUnadvisedCode pool a code.code → insns_pass (is_form_insn pool own methods) code.code (length code.code) 0 ≡ true → IsCarriedCode a own pool pool code code
+  written_as : (code : List ℕ) (chain : List Advice) (i : Insn) → is_empty chain ≡ true → Written c.pool code (advice_reference a) chain i (spelling i)
+  written_as code [] i none = refl
+  written_as code (b ∷ rest) i none = let apart : false ≡ true = none in absurd cc
+
+  unadvised_code : (code : CodeAttr) → IsUnadvisedCode c.pool a code.code → insns_pass (is_form_insn c.pool f.name (method_names c)) code.code (length code.code) 0 ≡ true → IsCarriedCode a f.name (method_names c) (with_pool c code) (with_pool c code)
   unadvised_code code x passes = record {
     stack = refl;
     locals = refl;
     insns = x.insns;
     bytes = spelling;
-    carried = zipped (λ i. (IsInsn i × IsSingle i) × (IsTrue (is_unadvised pool a i))) (λ i. is_form_insn pool own methods i ≡ true) (IsCarried a own pool pool spelling)
-        (λ i valid form. record { insn = valid.0.0; single = valid.0.1; meaning = has_meaning pool pool own methods (extends_same pool) i form; written = written_as (chain_of (aspect_of a ∷ []) (operation pool i)) i valid.1 })
-        x.insns (zipped (λ i. IsInsn i × IsSingle i) (λ i. IsTrue (is_unadvised pool a i)) _ (λ i valid none. (valid, none)) x.insns x.single x.none)
-        (all_pass (is_form_insn pool own methods) code.code (length code.code) 0 x.insns x.single x.spelled passes);
+    carried = zipped (λ i. (IsInsn i × IsSingle i) × (IsTrue (is_unadvised c.pool code.code a i))) (λ i. is_form_insn c.pool f.name (method_names c) i ≡ true) (IsCarried a f.name (method_names c) (with_pool c code) (with_pool c code) spelling)
+        (λ i valid form. record { insn = valid.0.0; single = valid.0.1; meaning = has_meaning c.pool c.pool code.code code.code f.name (method_names c) (extends_same c.pool) i form; written = written_as code.code (chain_of (aspect_of a ∷ []) (operation c.pool code.code i)) i valid.1 })
+        x.insns (zipped (λ i. IsInsn i × IsSingle i) (λ i. IsTrue (is_unadvised c.pool code.code a i)) _ (λ i valid none. (valid, none)) x.insns x.single x.none)
+        (all_pass (is_form_insn c.pool f.name (method_names c)) code.code (length code.code) 0 x.insns x.single x.spelled passes);
     before = x.spelled;
     after = x.spelled;
   }
 
-  unadvised_method : (m : Member) → is_form_method pool own methods m ≡ true → IsUnadvisedMethod pool a m → IsCarriedMember a own pool pool m m
+  unadvised_method : (m : Member) → Forms m → IsUnadvisedMethod c.pool a m → IsCarriedMember a f.name (method_names c) c c m m
   unadvised_method m form x =
-      let type = type_of own methods pool m form in
+      let type = type_of f.name (method_names c) c.pool m form in
       record {
-        flags = refl;
         type = type.0;
         typed = type.1;
         typed' = type.1;
@@ -185,34 +271,32 @@ module _ (a : FirstAspect) (own : List ℕ) (methods : List (List ℕ)) (pool : 
         code' = x.code;
         attributes = x.attributes;
         attributes' = x.attributes;
-        coded = named_code own methods pool m form x.name x.code x.attributes;
-        coded' = named_code own methods pool m form x.name x.code x.attributes;
-        carried = unadvised_code x.code x.unadvised (insns_of own methods pool m form x.name x.code x.attributes);
+        carried = unadvised_code x.code x.unadvised (insns_of f.name (method_names c) c.pool m form x.name x.code x.attributes);
       }
 
-  unadvised_methods : (ms : List Member) → list_all (is_form_method pool own methods) ms ≡ true → AllByRecursion (IsUnadvisedMethod pool a) ms → AllZip (IsCarriedMember a own pool pool) ms ms
+  unadvised_methods : (ms : List Member) → list_all (is_form_method c.pool f.name (method_names c)) ms ≡ true → AllByRecursion (IsUnadvisedMethod c.pool a) ms → AllZip (IsCarriedMember a f.name (method_names c) c c) ms ms
   unadvised_methods [] form all = tt
   unadvised_methods (m ∷ ms) form all =
-      let p = and_parts (is_form_method pool own methods m) (list_all (is_form_method pool own methods) ms) form in
+      let p = and_parts (is_form_method c.pool f.name (method_names c) m) (list_all (is_form_method c.pool f.name (method_names c)) ms) form in
       (unadvised_method m p.0 all.0, unadvised_methods ms p.1 all.1)
 
-unadvised_class : (c : ClassFile) (a : FirstAspect) → IsTrue (is_first_form c) → this_name c ≢ Some a.name → IsUnadvised a c → IsCarriedClass a c c
-unadvised_class c a form apart x =
-    let f = first_form c form in
-    record {
-      own = f.name;
-      named = f.named;
-      named' = f.named;
-      identifier = f.identifier;
-      apart = λ same. apart (f.named ∙ ap Some same);
-      members = unadvised_methods a f.name (method_names c) c.pool c.methods f.methods x;
-    }
+  unadvised_class : this_name c ≢ Some a.name → IsUnadvised a c → IsCarriedClass a c c
+  unadvised_class apart x = record {
+    own = f.name;
+    named = f.named;
+    named' = f.named;
+    identifier = f.identifier;
+    apart = λ same. apart (f.named ∙ ap Some same);
+    head = refl;
+    methods = f.methods;
+    members = unadvised_methods c.methods f.methods x;
+  }
 
 -- ---- all classes
 
 carried_class : (c w : ClassFile) (a : FirstAspect) → IsTrue (is_first_form c) → this_name c ≢ Some a.name → IsWovenOrKept a c w → IsCarriedClass a c w
-carried_class c w a form apart (Woven x) = woven_class c w a form apart x
-carried_class c w a form apart (Kept same x) = subst (IsCarriedClass a c) (sym same) (unadvised_class c a form apart x)
+carried_class c w a form apart (Woven x) = woven_class a c (first_form c form) w apart x
+carried_class c w a form apart (Kept same x) = subst (IsCarriedClass a c) (sym same) (unadvised_class a c (first_form c form) apart x)
 
 -- the last of a list without two alike is unlike those before it
 apart_from_last : {X : Type 0} (last : X) (xs : List X) (x : X) → AllByRecursion (λ y. x ≢ y) (xs ++ last ∷ []) → x ≢ last
@@ -233,4 +317,4 @@ pub woven_behaves : (classes written : List ClassFile) (a : FirstAspect) → All
     → AllZip (IsWovenOrKept a) classes written → Behaves classes (aspect_of a ∷ []) (written ++ aspect_class a ∷ [])
 woven_behaves classes written a form aspect apart all =
     let b = aspect_form a aspect in
-    behaves a b.0 b.1 classes written (carried_classes a classes written form apart all)
+    behaves a b.0 b.1 classes written (carried_classes a classes written form apart all) (plain_classes classes form)

@@ -7,7 +7,7 @@ use Rattle.class_file.specs.declared.types.ClassFile.{ClassFile}
 use Rattle.class_file.specs.Pool.{this_name}
 use Rattle.class_file.specs.FirstForm.{is_first_form}
 use Rattle.jp_model.specs.AspectText.{is_first_aspect}
-use Rattle.jp_model.specs.Classes.{is_named}
+use Rattle.class_machine.specs.ClassFiles.{is_named}
 use Rattle.jp_model.specs.Headline.{AreApart}
 use Rattle.before_weave.specs.Example.{calling_itself}
 use Rattle.before_weave.proofs.tests.classes_stand_in_order.Goals as goal

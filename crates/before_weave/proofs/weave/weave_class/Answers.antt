@@ -25,7 +25,7 @@ returns-then-woven c =
     let made : AreMarkedMethods c.deref.result.now (c.len.result + 6) c.args.class.methods c.in_ok-woven.woven.members.items c.in_ok-woven.woven.advised =
     subst (λ (l : List Member). AreMarkedMethods c.deref.result.now (c.len.result + 6) l c.in_ok-woven.woven.members.items c.in_ok-woven.woven.advised) c.as_slice-2.ensures c.in_ok-woven.ensures in
     ok_weaker c.with_calls.result (λ (w : ClassFile). w ≡ with_calls c.args.aspect.now c.args.class c.in_ok-woven.woven.members.items) (λ (w : ClassFile). IsClassWeaving c.args.aspect.now c.args.class w)
-    (λ (w : ClassFile) (is : w ≡ with_calls c.args.aspect.now c.args.class c.in_ok-woven.woven.members.items). woven_class c.args.aspect.now c.args.class w c.deref.result.now (c.len.result + 6) c.in_ok-woven.woven.members.items c.in_ok-woven.woven.advised
+    (λ (w : ClassFile) (is : w ≡ with_calls c.args.aspect.now c.args.class c.in_ok-woven.woven.members.items). woven_class c.args.aspect.now c.args.class w c.requires c.deref.result.now (c.len.result + 6) c.in_ok-woven.woven.members.items c.in_ok-woven.woven.advised
     marks (ap (λ n. n + 6) c.len.ensures) made c.if-woven.true is)
     c.with_calls.ensures
 
@@ -34,4 +34,4 @@ returns c =
     let marks : c.deref.result.now ≡ marks_of c.args.class.pool c.args.aspect.now = c.deref.ensures.value ∙ c.in_ok-marks.ensures ∙ ap (λ (p : List PoolEntry). marks_of p c.args.aspect.now) c.as_slice.ensures in
     let made : AreMarkedMethods c.deref.result.now (c.len.result + 6) c.args.class.methods c.in_ok-woven.woven.members.items c.in_ok-woven.woven.advised =
     subst (λ (l : List Member). AreMarkedMethods c.deref.result.now (c.len.result + 6) l c.in_ok-woven.woven.members.items c.in_ok-woven.woven.advised) c.as_slice-2.ensures c.in_ok-woven.ensures in
-    kept_class c.args.aspect.now c.args.class c.args.class c.deref.result.now (c.len.result + 6) c.in_ok-woven.woven.members.items c.in_ok-woven.woven.advised marks made c.if-woven.false refl
+    kept_class c.args.aspect.now c.args.class c.args.class c.requires c.deref.result.now (c.len.result + 6) c.in_ok-woven.woven.members.items c.in_ok-woven.woven.advised marks made c.if-woven.false refl
