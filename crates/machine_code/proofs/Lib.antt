@@ -4,3 +4,4 @@ pub mod ByNames
 pub mod Formed
 pub mod Finding
 pub mod Handled
+pub mod TypeKinds

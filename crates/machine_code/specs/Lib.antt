@@ -5,3 +5,5 @@ pub mod Keys
 pub mod FirstLaws
 pub mod NumberLaws
 pub mod SoundLaws
+pub mod TypeLengths
+pub mod CodeLaws

@@ -7,6 +7,7 @@
 #![tactic(auto)]
 
 mod code;
+mod descriptors;
 mod handlers;
 mod laws;
 mod lines;
@@ -16,12 +17,16 @@ mod operation;
 mod operations;
 mod switches;
 mod targets;
+#[cfg(test)]
+mod tests;
 
 pub use code::code_of;
+pub use descriptors::{kind_in, parameter_count, parameter_kind, result_type};
 pub use handlers::Handler;
 pub use laws::{
-    declared_is_first, first_is_numbered, found_is_first, selected_is_first, sound_is_program,
+    code_gives, declared_is_first, first_is_found, first_is_named, first_is_numbered,
+    found_is_first, selected_is_first, sound_is_program,
 };
-pub use method_code::{MethodCode, MethodEntry};
+pub use method_code::{Line, MethodCode, MethodEntry};
 pub use names::{interface_method_at, invoked};
 pub use operation::{KeyTable, Operation};

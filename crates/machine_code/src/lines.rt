@@ -1,6 +1,6 @@
 //! What stands at a place of a method's code.
 
-ghost use Rattle.std.specs.Prelude.{◌≡◌, ℕ, ℤ, List, Some, length};
+ghost use Rattle.std.specs.Prelude.{◌≡◌, ℕ, ℤ, List, Some, IfSome};
 ghost use Rattle.std.specs.Option.{option_map};
 ghost use Rattle.class_file.specs.Pool.{Reference};
 ghost use Rattle.class_machine.specs.ClassFiles as machine;
@@ -10,7 +10,7 @@ ghost use Rattle.machine_code.specs.Keys.{keys_at};
 ghost use Rattle.machine_code.specs.Operations.{seen};
 ghost use Rattle.machine_code.specs.Views.{code_seen, entry_seen};
 
-use crate::method_code::{MethodCode, MethodEntry};
+use crate::method_code::{Line, MethodCode, MethodEntry};
 use crate::operation::Operation;
 use crate::operations::operation;
 use crate::switches::target_of_key;
@@ -25,6 +25,23 @@ impl<'a> MethodCode<'a> {
     {
         match decode_at(self.code.code.as_slice(), pc) {
             Ok((insn, _)) => operation(self.pool, insn),
+            Err(_) => None,
+        }
+    }
+
+    /// The instruction at a place as `operation_at` gives it, with the place behind it.
+    pub fn line_at(&self, pc: u32) -> Option<Line>
+        ensures operation { option_map (λ line. seen self.now.pool.now self.now.code.now.code line.operation) result ≡ option_map Some (machine.line_at pc (code_seen self.now)) }
+        ensures next { IfSome result (λ line. line.next ≡ machine.next_pc pc (Some (code_seen self.now))) }
+    {
+        match decode_at(self.code.code.as_slice(), pc) {
+            Ok((insn, size)) => {
+                let operation = operation(self.pool, insn)?;
+                Some(Line {
+                    operation,
+                    next: pc + size,
+                })
+            }
             Err(_) => None,
         }
     }

@@ -9,7 +9,7 @@ use Rattle.machine_code.specs.Views.{code_seen}
 use Rattle.machine_code.proofs.Finding.{no_file, no_member, no_code, some_code, by_number, by_names}
 use Rattle.machine_code.proofs.Formed.{formed_at, code_is_small}
 use Rattle.machine_code.proofs.code.code_of.Goals as goal
-use Rattle.machine_code.proofs.code.code_of.Goals.{After-from_residual, After-from_residual-in_err-member, After-from_residual-in_err-code, After-result-1, After-as_slice}
+use Rattle.machine_code.proofs.code.code_of.Goals.{After-from_residual, After-from_residual-in_err-member, After-from_residual-in_err-code, After-as_slice}
 
 at-file : (c : After-from_residual) → option_map code_seen c.from_residual.result ≡ placed_code c.args.world.now.files (in_class c.method_at-position.result.0.0 c.method_at-position.result.1)
 at-file c =
@@ -74,7 +74,7 @@ invariant_of-result c =
       small = code_is_small file c.method_at-position.result.1 member c.in_ok-code.code.now (formed_at files c.method_at-position.result.0.0 file c.requires.formed given) there found;
     }
 
-at-end : (c : After-result-1) → Some (record { pool = c.as_slice.result.now; code = c.in_ok-code.code.now }) ≡ placed_code c.args.world.now.files (in_class c.method_at-position.result.0.0 c.method_at-position.result.1)
+at-end : (c : After-as_slice) → Some (record { pool = c.as_slice.result.now; code = c.in_ok-code.code.now }) ≡ placed_code c.args.world.now.files (in_class c.method_at-position.result.0.0 c.method_at-position.result.1)
 at-end c =
     let files = c.args.world.now.files in
     let file = c.in_ok-file.file.now in
@@ -89,9 +89,11 @@ at-end c =
 pub returns-clause-placed : goal.returns-clause-placed
 returns-clause-placed c =
     let m : MethodCode = record { pool = c.as_slice.result.now; code = c.in_ok-code.code.now } in
-    by_number c.args.world.now.files c.args.world.now.heads c.args.method.0 c.method_at-position.result.0.0 c.method_at-position.result.1 c.method_at-position.ensures.member (Some m) (at-end c)
+    by_number c.args.world.now.files c.args.world.now.heads c.args.method.0 c.method_at-position.result.0.0 c.method_at-position.result.1 c.method_at-position.ensures.member (Some m)
+    (at-end (goal.at.returns-clause-placed c).After-as_slice)
 
 pub returns-clause-named : goal.returns-clause-named
 returns-clause-named c =
     let m : MethodCode = record { pool = c.as_slice.result.now; code = c.in_ok-code.code.now } in
-    by_names c.args.world.now.files c.args.world.now.heads c.args.method.0 c.method_at-position.result.0.0 c.method_at-position.result.1 c.method_at-position.ensures.member (Some m) (at-end c)
+    by_names c.args.world.now.files c.args.world.now.heads c.args.method.0 c.method_at-position.result.0.0 c.method_at-position.result.1 c.method_at-position.ensures.member (Some m)
+    (at-end (goal.at.returns-clause-named c).After-as_slice)
