@@ -91,7 +91,7 @@ is_array_there s things others w at type k values distinct shares there holds = 
       ∙ ap (λ o. Some (worlds.Array (map (held s.heads things.names) (values_of o)))) (sym holds);
 }
 
-content_at : (cs : List Content) (at : ℕ) → at < length cs → (c : Content) × (slice_get cs at ≡ Some c)
+pub content_at : (cs : List Content) (at : ℕ) → at < length cs → (c : Content) × (slice_get cs at ≡ Some c)
 content_at [] at h = absurd (omega arith)
 content_at (c ∷ cs) zero h = (c, refl)
 content_at (c ∷ cs) (suc at) h = content_at cs at (omega arith)

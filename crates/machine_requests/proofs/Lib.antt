@@ -2,5 +2,8 @@ pub mod Counts
 pub mod Found
 pub mod ArrayLaws
 pub mod NewArrays
-pub mod Fields
+pub mod StaticLaws
 pub mod Stores
+pub mod Making
+pub mod Casts
+pub mod Reading

@@ -45,12 +45,12 @@ use Rattle.machine_requests.specs.Arrays.{base_element, array_element}
 use Rattle.machine_requests.proofs.ArrayLaws.{held_in_array}
 use Rattle.machine_requests.proofs.Counts.{same_itself}
 
-abbrev ref : ℕ → Ref
+abbrev pub ref : ℕ → Ref
 ref n = record { 0 = n }
 
 -- ---- the first elements
 
-blank_base : (heads : List ClassHead) (names : List Name) (b : Base) → blank (base_element b) ≡ held heads names (first_of_base b)
+pub blank_base : (heads : List ClassHead) (names : List Name) (b : Base) → blank (base_element b) ≡ held heads names (first_of_base b)
 blank_base heads names base.Boolean = refl
 blank_base heads names base.Byte = refl
 blank_base heads names base.Char = refl
@@ -67,7 +67,7 @@ blank_element heads names type = by (nat_lt 1 type.dims) where
   by true = refl
   by false = blank_base heads names type.base
 
-settled_base : (n : ℕ) (b : Base) → Settled n (first_of_base b)
+pub settled_base : (n : ℕ) (b : Base) → Settled n (first_of_base b)
 settled_base n base.Boolean = refl
 settled_base n base.Byte = refl
 settled_base n base.Char = refl
@@ -122,7 +122,7 @@ pub array_answer : (w : World) (type : List ℕ) (n : ℕ) → new_arrays w type
 array_answer w type n =
     ap (λ bad. judged bad (make_arrays type (pos n ∷ []) w)) (or_none (is_negative (pos n)) (not_negative n)) ∙ ap (judged false) (made_once w type n)
 
-last_name : (heads : List ClassHead) (names : List Name) (x : Name) → name_in heads (slice_get (names ++ x ∷ []) (length names)) ≡ machine_name heads x
+pub last_name : (heads : List ClassHead) (names : List Name) (x : Name) → name_in heads (slice_get (names ++ x ∷ []) (length names)) ≡ machine_name heads x
 last_name heads [] x = refl
 last_name heads (name ∷ names) x = last_name heads names x
 

@@ -37,7 +37,7 @@ use Rattle.machine_requests.specs.Growing.{store_shares}
 use Rattle.machine_requests.specs.Replies.{Replies, IsAnswerWhere, object}
 use Rattle.machine_requests.specs.Arrays.{type_of_array, array_type, array_element, index_in, kept_value, Holds}
 use Rattle.machine_requests.proofs.ArrayLaws.{place_name, IsArray, array_there, none_there, at_array, held_in_array, index_outside, index_inside}
-use Rattle.machine_requests.proofs.Fields.{kept_same, kept_settled}
+use Rattle.machine_requests.proofs.StaticLaws.{kept_same, kept_settled}
 
 -- ---- which object it is
 

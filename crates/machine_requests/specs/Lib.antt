@@ -7,3 +7,4 @@ pub mod Arrays
 pub mod Monitors
 pub mod Growing
 pub mod Statics
+pub mod Objects

@@ -8,18 +8,22 @@
 
 mod arrays;
 mod elements;
+mod fields;
 mod laws;
 mod monitors;
 mod new_objects;
 mod reply;
 mod statics;
+mod types;
 
 pub use arrays::{array_length, array_load, array_store};
+pub use fields::get_field;
 pub use laws::{
     constant_shares, due_stays, frames_stay, make_shares, makers_tell, places_tell, represents,
     store_shares, values_stay,
 };
 pub use monitors::{enter_monitor, leave_monitor};
-pub use new_objects::{class_object, make_array};
+pub use new_objects::{class_object, make, make_array};
 pub use reply::Reply;
 pub use statics::{get_static, put_static};
+pub use types::{cast, is_instance};

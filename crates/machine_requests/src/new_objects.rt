@@ -4,13 +4,14 @@ ghost use Rattle.std.specs.Prelude.{◌≡◌, ◌≤ℤ◌, pos, ◌++◌, [], 
 ghost use Rattle.class_machine.specs.Effect.{LoadClass, MakeArray};
 ghost use Rattle.machine_values.specs.Types.{type_name};
 ghost use Rattle.machine_requests.specs.Telling.{is_array_type, is_class_type};
+ghost use Rattle.machine_requests.specs.Objects.{Makes};
 ghost use Rattle.machine_requests.specs.Shares.{Others};
 ghost use Rattle.machine_requests.specs.Replies.{IsAnswer, IsLonger};
 
 use crate::reply::Reply;
-use aj_names::FieldType;
+use aj_names::{ClassId, FieldType};
 use class_machine::kinds::Fault;
-use machine_values::{Heap, Value};
+use machine_values::{Heap, Ref, Value};
 use std::alloc::AllocError;
 
 // A size that isn't negative.
@@ -47,4 +48,24 @@ pub fn class_object(heap: &mut Heap, class: &FieldType) -> Result<Reply, AllocEr
 {
     let at = heap.class_object(class)?;
     Ok(Reply::Gives(Value::Reference(at)))
+}
+
+/// A new object of the class: one with an empty text, where `text` says that its objects have texts,
+/// and else one with fields of these types, with their first values (JVMS 6, `new`). A call that fails
+/// leaves the heap as it was.
+pub fn make(
+    heap: &mut Heap,
+    class: ClassId,
+    text: bool,
+    fields: &[FieldType],
+) -> Result<Ref, AllocError>
+    ensures ok { IfOk result (λ at. (others : Others) → Makes class.0 text fields.now heap.old others heap.new at) }
+    ensures names { IsLonger heap.old heap.new }
+    ensures err { OnErr result (heap.new ≡ heap.old) }
+{
+    if text {
+        heap.make_text(class, &[])
+    } else {
+        heap.make(class, fields)
+    }
 }

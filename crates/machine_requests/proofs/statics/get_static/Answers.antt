@@ -5,7 +5,7 @@ use Rattle.machine_values.specs.declared.values.Value.{Value}
 use Rattle.machine_requests.specs.declared.reply.Reply.{Reply}
 use Rattle.machine_requests.specs.Statics.{is_of, read_reply, IsField, IsInitial}
 use Rattle.machine_requests.specs.Replies.{IsAnswerWhere}
-use Rattle.machine_requests.proofs.Fields.{static_read}
+use Rattle.machine_requests.proofs.StaticLaws.{static_read}
 use Rattle.machine_requests.proofs.statics.get_static.Goals as goal
 
 pub returns : goal.returns

@@ -6,7 +6,7 @@ use Rattle.machine_requests.specs.declared.reply.Reply.TheVariants.{Done}
 use Rattle.machine_requests.specs.Arrays.{kept_value}
 use Rattle.machine_requests.specs.Statics.{IsField, AreApart, with_statics}
 use Rattle.machine_requests.specs.Replies.{IsAnswerWhere}
-use Rattle.machine_requests.proofs.Fields.{static_written}
+use Rattle.machine_requests.proofs.StaticLaws.{static_written}
 use Rattle.machine_requests.proofs.statics.put_static.Goals as goal
 
 pub returns : goal.returns

@@ -1,0 +1,18 @@
+use Rattle.std.proofs.Common.{ℕ, Bool, true, false, sym, subst}
+use Rattle.std.proofs.lemmas.Result.{IfOk-weaker}
+use Rattle.machine_values.specs.Things.{Things}
+use Rattle.machine_requests.specs.Objects.{Makes}
+use Rattle.machine_requests.proofs.Making.{text_made, object_made}
+use Rattle.machine_requests.proofs.new_objects.make.Goals as goal
+
+pub returns-then-text-clause-ok : goal.returns-then-text-clause-ok
+returns-then-text-clause-ok c = IfOk-weaker c.make_text.result _ _ (λ at made others.
+    subst (λ (b : Bool). Makes c.args.class.0 b c.args.fields.now c.args.heap.now others c.make_text.new.self at) (sym c.if-text.true)
+    (subst (λ (p : ℕ × Things). Makes c.args.class.0 true c.args.fields.now c.args.heap.now others p.1 (record { 0 = p.0 })) (sym made) (text_made c.args.heap.now others c.args.class c.args.fields.now)))
+    c.make_text.ensures.ok
+
+pub returns-else-text-clause-ok : goal.returns-else-text-clause-ok
+returns-else-text-clause-ok c = IfOk-weaker c.make.result _ _ (λ at made others.
+    subst (λ (b : Bool). Makes c.args.class.0 b c.args.fields.now c.args.heap.now others c.make.new.self at) (sym c.if-text.false)
+    (subst (λ (p : ℕ × Things). Makes c.args.class.0 false c.args.fields.now c.args.heap.now others p.1 (record { 0 = p.0 })) (sym made) (object_made c.args.heap.now others c.args.class c.args.fields.now)))
+    c.make.ensures.ok
