@@ -1,8 +1,7 @@
 -- A run isn't Broken by what fits.
-use Rattle.std.proofs.Common.{◌≡◌, ℕ, ◌+◌, ◌<◌, ◌≤◌, Bool, true, false, not, ◌&&◌, List, [], ◌∷◌, ◌++◌, ◌-◌, length, map, reverse, take, get_or, refl, sym, ◌∙◌, ap, subst, arith}
+use Rattle.std.proofs.Common.{◌≡◌, ℕ, ◌+◌, ◌<◌, ◌≤◌, Bool, true, false, not, ◌&&◌, List, [], ◌∷◌, ◌-◌, length, reverse, take, get_or, refl, sym, ◌∙◌, ap, arith}
 use Rattle.std.proofs.lemmas.List.{length-reverse, reverse-append, take_more, take_all}
 use Rattle.std.proofs.Math.Nat.{le_refl}
-use Rattle.class_file.specs.Pool.{Reference}
 use Rattle.class_machine.specs.declared.kinds.Kind.{Kind}
 use Rattle.class_machine.specs.Values as machine
 use Rattle.class_machine.specs.ClassFiles.{Place}
@@ -15,7 +14,7 @@ use Rattle.machine_frames.specs.Naming.{Naming, held, value, values}
 use Rattle.machine_frames.specs.Kinds.{is_of}
 use Rattle.machine_frames.specs.Operands.{Onward}
 use Rattle.machine_frames.specs.Effects.{operands_of, locals_of}
-use Rattle.machine_frames.specs.Calls.{fits, kinds_for}
+use Rattle.machine_frames.specs.Calls.{fits}
 use Rattle.machine_frames.specs.Peeks.{TellsPut, TellsCall}
 use Rattle.machine_frames.proofs.Kinded.{takes, refuses}
 use Rattle.machine_frames.proofs.Arguments.{pop_kinds, in_reverse}

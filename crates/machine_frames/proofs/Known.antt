@@ -1,5 +1,4 @@
 -- Which objects operands and effects refer to, over several steps.
-use Rattle.std.proofs.Common.{◌≡◌, ℕ, true}
 use Rattle.machine_values.specs.declared.values.Ref.{Ref}
 use Rattle.machine_values.specs.declared.values.Value.{Value}
 use Rattle.machine_values.specs.Stacks.{Stack}

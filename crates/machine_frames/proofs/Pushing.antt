@@ -1,11 +1,9 @@
 -- The operands take the slots that what they stand for takes.
-use Rattle.std.proofs.Common.{◌≡◌, ℕ, ◌+◌, ◌≤◌, ◌<◌, Bool, true, false, if◌then◌else◌, List, [], ◌∷◌, Option, Some, None, nat_le, refl, sym, ◌∙◌, ap, arith}
+use Rattle.std.proofs.Common.{◌≡◌, ℕ, ◌+◌, ◌<◌, Bool, true, false, if◌then◌else◌, List, [], ◌∷◌, Option, Some, None, nat_le, refl, sym, ◌∙◌, ap, arith}
 use Rattle.std.proofs.lemmas.Bool.{le-leb, leb-true}
-use Rattle.class_machine.specs.declared.kinds.Kind.{Kind}
 use Rattle.class_machine.specs.Values as machine
 use Rattle.class_machine.specs.Values.{has_room, kind_width}
 use Rattle.class_machine.specs.ClassFiles.{Place}
-use Rattle.class_machine.specs.Effect as definition
 use Rattle.machine_values.specs.declared.values.Value.{Value}
 use Rattle.machine_values.specs.declared.values.Value.TheVariants.{Int, Long, Float, Double, Null, Reference, Token, ReturnAddress}
 use Rattle.machine_values.specs.Stacks as stacks

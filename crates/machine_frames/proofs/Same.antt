@@ -1,5 +1,5 @@
 -- Distinct places have distinct names.
-use Rattle.std.proofs.Common.{◌≡◌, ℕ, Bool, true, false, ◌==◌, Option, Some, None, refl, sym}
+use Rattle.std.proofs.Common.{◌≡◌, ℕ, true, ◌==◌, Some, sym}
 use Rattle.std.proofs.lemmas.Bool.{ltb-true}
 use Rattle.class_machine.specs.Values.{same_object}
 use Rattle.machine_values.specs.declared.values.Ref.{Ref}

@@ -1,5 +1,5 @@
 -- Which objects operands, effects and frames refer to, as forms need it.
-use Rattle.std.proofs.Common.{◌≡◌, ℕ, ℤ, Bool, true, ◌&&◌, Option, Some, refl, sym, ◌∙◌, ap}
+use Rattle.std.proofs.Common.{◌≡◌, ℕ, ℤ, true, ◌&&◌, Option, Some, refl, sym, ◌∙◌, ap}
 use Rattle.aj_names.specs.declared.ids.ClassId.{ClassId}
 use Rattle.class_machine.specs.declared.kinds.Element.{Element}
 use Rattle.machine_values.specs.declared.values.Ref.{Ref}

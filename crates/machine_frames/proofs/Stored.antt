@@ -1,23 +1,18 @@
 -- What locals stand for is read and written where they are.
-use Rattle.std.proofs.Common.{◌≡◌, ℕ, suc, zero, ◌+◌, ◌≤◌, ◌<◌, Bool, true, false, if◌then◌else◌, List, [], ◌∷◌, length, map, Option, Some, None, nat_le, sym, ◌∙◌, ap, subst, arith}
-use Rattle.std.specs.Prelude.{slice_get, slice_set}
-use Rattle.std.specs.List.{AllByRecursion}
-use Rattle.std.specs.Option.{option_map}
-use Rattle.std.proofs.lemmas.Bool.{le-leb, leb-true}
-use Rattle.std.proofs.lemmas.Option.{slice_get-map, slice_get_past}
-use Rattle.std.proofs.lemmas.List.{length-map, map-set, length-set}
+use Rattle.std.proofs.Common.{◌≡◌, ℕ, ◌+◌, ◌≤◌, Bool, true, false, if◌then◌else◌, List, length, Option, Some, None, nat_le, sym, ◌∙◌, ap, subst}
+use Rattle.std.specs.Prelude.{slice_set}
+use Rattle.std.proofs.lemmas.Bool.{le-leb}
+use Rattle.std.proofs.lemmas.List.{length-map, map-set}
 use Rattle.class_machine.specs.Values as machine
 use Rattle.class_machine.specs.ClassFiles.{Place}
 use Rattle.class_machine.specs.Effect as definition
 use Rattle.machine_values.specs.declared.values.Value.{Value}
 use Rattle.machine_values.specs.declared.values.Local.{Local}
-use Rattle.machine_values.specs.declared.values.Local.TheVariants.{Unset, Holds, Second}
+use Rattle.machine_values.specs.declared.values.Local.TheVariants.{Holds, Second}
 use Rattle.machine_values.specs.Stacks as stacks
-use Rattle.machine_values.specs.States.{is_known, is_known_local}
 use Rattle.machine_frames.specs.Naming.{Naming, value, local, locals}
-use Rattle.machine_frames.specs.Effects.{AreKnownLocals}
-use Rattle.machine_frames.specs.Locals.{Onward, Reads, CannotRead, Writes, CannotWrite, IsKnownIn}
-use Rattle.machine_frames.proofs.Pushing.{is_wide-value, width-value, not_le}
+use Rattle.machine_frames.specs.Locals.{Writes}
+use Rattle.machine_frames.proofs.Pushing.{is_wide-value, width-value}
 
 -- ---- writes
 

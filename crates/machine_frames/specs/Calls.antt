@@ -9,7 +9,6 @@ use Rattle.class_machine.specs.Values as machine
 use Rattle.class_machine.specs.ClassFiles.{Place}
 use Rattle.class_machine.specs.Descriptors.{kind_in, parameters_in}
 use Rattle.class_machine.specs.Effect as definition
-use Rattle.machine_values.specs.declared.values.Ref.{Ref}
 use Rattle.machine_values.specs.declared.values.Value.{Value}
 use Rattle.machine_values.specs.declared.frames.Frame.{Frame}
 use Rattle.machine_values.specs.Stacks.{Stack}

@@ -11,7 +11,7 @@ use Rattle.machine_values.specs.declared.values.Value.{Value}
 use Rattle.machine_values.specs.declared.values.Local.{Local}
 use Rattle.machine_values.specs.declared.frames.Frame.{Frame}
 use Rattle.machine_values.specs.Standing.{is_settled}
-use Rattle.machine_values.specs.States.{is_known, is_known_local, is_known_object, IsFrameWithin}
+use Rattle.machine_values.specs.States.{is_known, is_known_local, is_known_object}
 use Rattle.machine_frames.specs.declared.effect.Request.{Request}
 use Rattle.machine_frames.specs.declared.effect.Request.TheVariants.{MakeArray, ArrayLoad, ArrayStore, ArrayLength, EnterMonitor, LeaveMonitor}
 use Rattle.machine_frames.specs.declared.effect.Effect.{Effect}

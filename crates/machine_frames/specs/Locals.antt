@@ -1,5 +1,5 @@
 -- What the functions on locals do, for each naming of what the locals stand for.
-use Rattle.std.specs.Prelude.{◌≡◌, ℕ, Bool, true, List, Option, Some, None}
+use Rattle.std.specs.Prelude.{◌≡◌, ℕ, true, List, Some, None}
 use Rattle.class_machine.specs.Values as machine
 use Rattle.class_machine.specs.ClassFiles.{Place}
 use Rattle.class_machine.specs.Effect as definition

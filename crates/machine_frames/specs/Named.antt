@@ -1,14 +1,10 @@
 -- What the functions for instructions that name something do to the frame, whatever it is that they name.
-use Rattle.std.specs.Prelude.{◌≡◌, ℕ, ◌∷◌, ◌+◌, max, Bool, true, not, ℤ, List, [], map, reverse, Option}
+use Rattle.std.specs.Prelude.{◌≡◌, ℤ, List, Option}
 use Rattle.class_file.specs.Pool.{Reference}
-use Rattle.class_heads.specs.Hierarchy.{name_at}
-use Rattle.aj_names.specs.declared.ids.ClassId.{ClassId}
 use Rattle.class_machine.specs.declared.kinds.Kind.{Kind}
 use Rattle.class_machine.specs.declared.kinds.Access.{Access}
-use Rattle.class_machine.specs.declared.kinds.Mode.{Mode}
 use Rattle.class_machine.specs.Values as machine
 use Rattle.class_machine.specs.ClassFiles.{Place}
-use Rattle.class_machine.specs.Descriptors.{kind_in, parameters_in}
 use Rattle.class_machine.specs.Effect as definition
 use Rattle.machine_values.specs.declared.values.Ref.{Ref}
 use Rattle.machine_values.specs.declared.values.Value.{Value}

@@ -1,5 +1,5 @@
 -- The numbers of tokens.
-use Rattle.std.specs.Prelude.{◌≡◌, ℕ, ◌+◌, ◌≤◌, ◌^◌, max, List, [], ◌∷◌}
+use Rattle.std.specs.Prelude.{◌≡◌, ℕ, ◌≤◌, ◌^◌, max, List, [], ◌∷◌}
 use Rattle.class_heads.specs.Hierarchy.{name_at}
 use Rattle.aj_names.specs.declared.ids.ClassId.{ClassId}
 use Rattle.class_machine.specs.Values as machine
