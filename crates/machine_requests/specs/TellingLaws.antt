@@ -1,6 +1,6 @@
 -- Of classes with names of their own, and of objects that are numbered, each name is that of one object.
 use Rattle.std.specs.Prelude.{◌≡◌, ◌≢◌, ℕ, zero, suc, ◌<◌, ◌==◌, Bool, true, false, not, ◌&&◌, ◌||◌, List, [], ◌∷◌, ◌++◌, length, replicate, slice_get, Option, Some, None, refl, nat_lt, if◌then◌else◌}
-use Rattle.std.specs.List.{AllByRecursion}
+use Rattle.std.specs.List.{AllByRecursion, list_all}
 use Rattle.std.specs.Str.{bytes_eq}
 use Rattle.std.proofs.Common.{sym, ◌∙◌, ap, subst, inl, inr, arith, eq-eqb}
 use Rattle.std.proofs.lemmas.Bool.{and_parts, cases_Bool, false≢true, eqb-true, ltb-true, ltb-false}
@@ -11,6 +11,7 @@ use Rattle.aj_names.specs.declared.types.Base.{Base}
 use Rattle.aj_names.specs.declared.types.Base.TheVariants as base
 use Rattle.aj_names.specs.declared.types.FieldType.{FieldType}
 use Rattle.aj_names.specs.Descriptors.{base_spelling, field_spelling}
+use Rattle.class_file.specs.Text.{is_utf8, is_paired, is_name_byte, is_name_text, has_parts, is_class_name}
 use Rattle.class_heads.specs.declared.types.ClassHead.{ClassHead}
 use Rattle.class_heads.specs.Hierarchy.{name_at, place_of, is_array}
 use Rattle.class_machine.specs.Values as machine
@@ -169,6 +170,27 @@ array_class : (type : FieldType) → is_array_type type ≡ true → is_class_ty
 array_class type h =
     let both = and_parts (is_plain_base type.base) (nat_lt 0 type.dims) h in
     and_of (is_plain_base type.base) (nat_lt 0 type.dims || is_class type.base) both.0 (or_of (nat_lt 0 type.dims) (is_class type.base) both.1)
+
+-- ---- names that class files have
+
+letter : (dot semicolon bracket zero_byte : Bool) → (not dot && (not semicolon && (not bracket && not zero_byte))) ≡ true → not (semicolon || bracket) ≡ true
+letter true semicolon bracket zero_byte h = absurd (false≢true h)
+letter false true bracket zero_byte h = absurd (false≢true h)
+letter false false true zero_byte h = absurd (false≢true h)
+letter false false false zero_byte h = refl
+
+letters : (bytes : List ℕ) → list_all is_name_byte bytes ≡ true → is_plain bytes ≡ true
+letters [] h = refl
+letters (b ∷ bytes) h =
+    let both = and_parts (is_name_byte b) (list_all is_name_byte bytes) h in
+    and_of (is_letter b) (is_plain bytes) (letter (b == 46) (b == 59) (b == 91) (b == 0xC0) both.0) (letters bytes both.1)
+
+-- the name of a class has neither
+pub class_name_plain : (name : List ℕ) → is_class_name name ≡ true → is_plain name ≡ true
+class_name_plain name h =
+    let text = (and_parts (is_name_text name) (has_parts true name) h).0 in
+    let paired = (and_parts (is_utf8 name) (is_paired name && list_all is_name_byte name) text).1 in
+    letters name (and_parts (is_paired name) (list_all is_name_byte name) paired).1
 
 -- ---- names of makers
 

@@ -3,6 +3,7 @@
 ghost use Rattle.std.specs.Prelude.{◌≡◌, ◌<◌, ◌==◌, ℕ, true, List, [], ◌++◌, map, length, slice_get, Some};
 ghost use Rattle.std.specs.List.{AllByRecursion};
 ghost use Rattle.class_file.specs.Pool.{Reference};
+ghost use Rattle.class_file.specs.Text.{is_class_name};
 ghost use Rattle.class_heads.specs.declared.types.ClassHead.{ClassHead};
 ghost use Rattle.class_machine.specs.ClassFiles.{Place};
 ghost use Rattle.class_machine.specs.Machine.{State};
@@ -21,13 +22,18 @@ ghost use Rattle.machine_values.specs.Standing.{AreNumbered, IsSettledContent, h
 ghost use Rattle.machine_values.specs.States.{is_known, machine_frame, machine_due, IsFrameWithin, IsDueWithin, Represents};
 ghost use Rattle.machine_values.specs.Things.{Things, changed, is_constant, with_constant, with_made};
 ghost use Rattle.machine_requests.specs.Shares.{HasFrames, Others, Setting, Shares, others_of};
-ghost use Rattle.machine_requests.specs.Telling.{AreDistinct, AreFit, is_fit, is_fit_maker};
+ghost use Rattle.machine_requests.specs.Telling.{AreDistinct, AreFit, is_fit, is_fit_maker, is_plain};
 
 /// Of classes with names of their own, two places of a heap have the same object only if they are the
 /// same.
 pub fn places_tell()
     ensures { (heads : List ClassHead) (names : List Name) → AreDistinct heads → AreNumbered [] names → AreFit (length heads) names → (a b : ℕ) → a < length names → b < length names
         → machine.same_name (name_in heads (slice_get names a)) (name_in heads (slice_get names b)) ≡ (a == b) }
+{}
+
+/// The names of classes that class files have are plain: none has a `;` or a `[` (JVMS 4.2).
+pub fn class_names_are_plain()
+    ensures { (name : List ℕ) → is_class_name name ≡ true → is_plain name ≡ true }
 {}
 
 /// The name of a class or an array type tells it from those of all objects.
