@@ -20,6 +20,3 @@ pub use fault::ScriptFault;
 pub use numbers::read_steps;
 pub use script::read_script;
 pub use values::{ending_line, event_line, outcome_line};
-
-#[cfg(test)]
-mod tests;
