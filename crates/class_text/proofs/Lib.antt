@@ -14,3 +14,6 @@ pub mod CodeBytes
 pub mod Methods
 pub mod SoundMembers
 pub mod WellFormed
+pub mod Relabelled
+pub mod SameClass
+pub mod SameFile

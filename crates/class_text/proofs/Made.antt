@@ -52,7 +52,7 @@ within_made line placed made h =
     let same : placed ≡ made = same_ok placed made p.1 in
     (same, subst (λ (m : Placed). length m.0 ≤ 65534) same (leb-true (length placed.0) 65534 p.0))
 
-short_made : (line : ℕ) (text : Text) (placed made : Placed) → with_short line text placed ≡ Ok made → (length text ≤ 65535) × (placed ≡ made) × (length made.0 ≤ 65534)
+pub short_made : (line : ℕ) (text : Text) (placed made : Placed) → with_short line text placed ≡ Ok made → (length text ≤ 65535) × (placed ≡ made) × (length made.0 ≤ 65534)
 short_made line text placed made h =
     let p = if_made (nat_le (length text) 65535) (within_pool line placed) line made h in
     let q = within_made line placed made p.1 in

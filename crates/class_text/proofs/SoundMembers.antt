@@ -321,12 +321,12 @@ line_method version body end number (Some Line.End) pool made form are few insid
 line_method version body end number None pool made form are few inside h = nothing_of (MethodIn version) pool made few h
 
 -- the lines behind one have their own places and labels, which are right
-record Behind (end : ℕ) (lines : List Numbered) : Type 0 where
-  body : List Numbered
-  pc : ℕ
-  right : mislabelled body pc lines ≡ None
+pub record Behind (end : ℕ) (lines : List Numbered) : Type 0 where
+  pub body : List Numbered
+  pub pc : ℕ
+  pub right : mislabelled body pc lines ≡ None
 
-right_behind : (end : ℕ) (body : List Numbered) (pc number : ℕ) (o : Option Line) (lines : List Numbered) → mislabelled body pc (record { number = number; line = o } ∷ lines) ≡ None
+pub right_behind : (end : ℕ) (body : List Numbered) (pc number : ℕ) (o : Option Line) (lines : List Numbered) → mislabelled body pc (record { number = number; line = o } ∷ lines) ≡ None
     → Behind end lines × ((head : MemberHead) (stack locals : ℕ) → o ≡ Some (Line.Method head stack locals) → mislabelled lines 0 lines ≡ None)
 right_behind end body pc number (Some (Line.Method head stack locals)) lines h = (record { body = lines; pc = 0; right = h }, λ head stack locals e. h)
 right_behind end body pc number (Some (Line.Class name super v flags interfaces)) lines h = (record { body = body; pc = pc; right = h }, λ head stack locals e. absurd cc)
@@ -343,7 +343,7 @@ right_behind end body pc number (Some Line.End) lines h =
     (record { body = body; pc = pc; right = r.1 }, λ head stack locals e. absurd cc)
 right_behind end body pc number None lines h = (record { body = body; pc = pc; right = h }, λ head stack locals e. absurd cc)
 
-place_behind_method : (end number : ℕ) (place : Place) (o : Option Line) (lines : List Numbered) → misplaced end (place_after place o) lines ≡ None → (head : MemberHead) (stack locals : ℕ) → o ≡ Some (Line.Method head stack locals) → misplaced end Place.Inside lines ≡ None
+pub place_behind_method : (end number : ℕ) (place : Place) (o : Option Line) (lines : List Numbered) → misplaced end (place_after place o) lines ≡ None → (head : MemberHead) (stack locals : ℕ) → o ≡ Some (Line.Method head stack locals) → misplaced end Place.Inside lines ≡ None
 place_behind_method end number place o lines h head stack locals is = ap (λ (o : Option Line). misplaced end (place_after place o) lines) (sym is) ∙ h
 
 -- the methods of the lines

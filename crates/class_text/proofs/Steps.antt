@@ -97,7 +97,7 @@ if_some : (t : Bool) (m n : ℕ) → 0 < m → 0 < n → 0 < (if t then m else n
 if_some true m n h k = h
 if_some false m n h k = k
 
-size_some : (pc : ℕ) (o : Operation) → 0 < size_at pc o
+pub size_some : (pc : ℕ) (o : Operation) → 0 < size_at pc o
 size_some pc (Operation.Local op local) = if_some (nat_lt 255 local) 4 2 (omega arith) (omega arith)
 size_some pc (Operation.Iinc local by) = if_some (is_wide_increment local by) 6 3 (omega arith) (omega arith)
 size_some pc (Operation.Constant op constant) = if_some (op == 18) 2 3 (omega arith) (omega arith)

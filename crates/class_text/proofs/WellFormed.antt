@@ -238,7 +238,7 @@ made_of_lines fault end (line ∷ lines) c are place right h = first_line fault 
 
 -- ---- texts
 
-none_first : (a b : Option ℕ) → first_of a b ≡ None → (a ≡ None) × (b ≡ None)
+pub none_first : (a b : Option ℕ) → first_of a b ≡ None → (a ≡ None) × (b ≡ None)
 none_first None b h = (refl, h)
 none_first (Some a) None h = absurd cc
 none_first (Some a) (Some b) h = absurd cc
