@@ -10,6 +10,7 @@ use std::alloc::{AllocError, Global};
 use std::test::Fail;
 
 /// The class file of a text; no bytes, where the text is none.
+#[tactic(auto, using(crate::proofs::Writable::writable))]
 fn class_file(alloc: Global, text: &str) -> Result<Vec<u8>, AllocError> {
     match to_class(alloc, text.as_bytes()) {
         Ok(class) => write_class(alloc, &class),
