@@ -25,6 +25,3 @@ pub use reading::{
 };
 pub use sqlite_items::Items;
 pub use types::{Base, FieldName, FieldType, MemberName, MethodName, MethodType, NameFault};
-
-#[cfg(test)]
-mod tests;

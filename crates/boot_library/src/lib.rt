@@ -11,6 +11,3 @@ mod table;
 pub use heads::library_heads;
 pub use lookup::library_rule;
 pub use rule::{LibraryRule, Primitive, Spelling};
-
-#[cfg(test)]
-mod tests;

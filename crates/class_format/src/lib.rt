@@ -22,6 +22,3 @@ pub use class_file::{
 pub use fault::ClassFault;
 pub use reading::read_class;
 pub use writing::write_class;
-
-#[cfg(test)]
-mod tests;

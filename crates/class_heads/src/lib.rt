@@ -12,6 +12,3 @@ pub use fault::WorldFault;
 pub use heads::head_of;
 pub use reserved::is_reserved;
 pub use types::{ClassHead, FieldHead, MethodHead};
-
-#[cfg(test)]
-mod tests;

@@ -21,6 +21,3 @@ pub use operations::is_class_constant;
 pub use printing::put_line;
 pub use reading::read_line;
 pub use text::read_text_line;
-
-#[cfg(test)]
-mod tests;

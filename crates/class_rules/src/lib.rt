@@ -14,6 +14,3 @@ pub use code::code_fault;
 pub use forms::TextForms;
 pub use pool::pool_fault;
 pub use starts::Starts;
-
-#[cfg(test)]
-mod tests;

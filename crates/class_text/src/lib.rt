@@ -15,6 +15,3 @@ mod slots;
 
 pub use fault::TextFault;
 pub use reading::to_class;
-
-#[cfg(test)]
-mod tests;

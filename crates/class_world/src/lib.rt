@@ -12,8 +12,6 @@ mod names;
 mod numbers;
 mod supers;
 mod tables;
-#[cfg(test)]
-mod tests;
 mod world;
 
 pub use class_heads::{ClassHead, FieldHead, MethodHead, WorldFault};

@@ -8,8 +8,6 @@ mod numbers;
 mod places;
 mod queries;
 mod subtypes;
-#[cfg(test)]
-mod tests;
 mod upward;
 
 pub(crate) use in_order::in_order;

@@ -5,8 +5,6 @@
 mod calls;
 mod edit;
 mod fault;
-#[cfg(test)]
-mod tests;
 
 pub use edit::PoolEdit;
 pub use fault::PoolFault;

@@ -20,6 +20,3 @@ pub use switch::{
     table_offset,
 };
 pub use table::{form_of, mnemonic};
-
-#[cfg(test)]
-mod tests;

@@ -1,11 +1,10 @@
-//! Worked examples.
+//! Faults of constant pools and of code.
 
-use super::*;
 use aj_names::ByteString;
 use class_file::{CodeAttr, ExceptionEntry, PoolEntry};
+use class_rules::{Starts, TextForms, code_fault, pool_fault};
 use sqlite_items::Items;
 use std::alloc::{AllocError, Global};
-use std::process::Abort;
 
 fn utf8(alloc: Global, bytes: &[u8]) -> Result<PoolEntry, AllocError> {
     Ok(PoolEntry::Utf8(ByteString::from_slice(alloc, bytes)?))
@@ -32,60 +31,84 @@ fn sound_pool(alloc: Global) -> Result<Vec<PoolEntry>, AllocError> {
 }
 
 // The first fault of the sound pool with the entry behind it, at index 14.
-fn fault_with(rt: &impl Abort, alloc: Global, entry: PoolEntry) -> Result<Option<u16>, AllocError> {
+fn fault_with(alloc: Global, entry: PoolEntry) -> Result<Option<u16>, AllocError> {
     let mut pool = sound_pool(alloc)?;
     pool.push(entry)?;
-    assert!(rt; pool.len() < 65535);
     let forms = TextForms::judge(alloc, &pool)?;
-    Ok(pool_fault(&pool, &forms))
+    Ok(if pool.len() < 65535 {
+        pool_fault(&pool, &forms)
+    } else {
+        None
+    })
 }
 
-// Entries that name what is of another kind, or nothing, and a text that isn't modified UTF-8.
-fn unsound_entries(alloc: Global) -> Result<Vec<PoolEntry>, AllocError> {
-    let entries = vec![in alloc;
-        utf8(alloc, &[0])?,
-        PoolEntry::Class(2),
-        PoolEntry::String(0),
-        PoolEntry::Fieldref(2, 7),
-        PoolEntry::Methodref(2, 10),
-        PoolEntry::InterfaceMethodref(1, 7),
-        PoolEntry::NameAndType(1, 6),
-        PoolEntry::NameAndType(5, 5),
-    ]?;
-    Ok(entries)
-}
+/// Entries that name what is of another kind, or nothing.
+const UNSOUND: [PoolEntry; 7] = [
+    PoolEntry::Class(2),
+    PoolEntry::String(0),
+    PoolEntry::Fieldref(2, 7),
+    PoolEntry::Methodref(2, 10),
+    PoolEntry::InterfaceMethodref(1, 7),
+    PoolEntry::NameAndType(1, 6),
+    PoolEntry::NameAndType(5, 5),
+];
 
 #[test]
 fn pools_have_faults(rt: HostRuntime) -> Result<(), AllocError> {
-    let alloc = rt.alloc();
-    assert_eq!(rt; fault_with(&rt, alloc, PoolEntry::Float(0))?, None);
-    for entry in unsound_entries(alloc)? {
-        assert_eq!(rt; fault_with(&rt, alloc, entry), Ok(Some(14)));
+    assert!(rt; fault_with(rt.alloc(), PoolEntry::Float(0))?.is_none());
+    for entry in UNSOUND {
+        assert!(rt; fault_with(rt.alloc(), entry)? == Some(14));
     }
+    // A text that isn't modified UTF-8.
+    let text = utf8(rt.alloc(), &[0])?;
+    assert!(rt; fault_with(rt.alloc(), text)? == Some(14));
     Ok(())
 }
 
-// A descriptor whose parameters take 255 slots.
-fn long_descriptor(alloc: Global) -> Result<PoolEntry, AllocError> {
+/// What the text of the index may serve as: a text, the name of a class, an internal name, the name of a
+/// member, a descriptor of a field, of a method with a receiver, and of one without.
+fn served(forms: &TextForms, index: u16) -> [bool; 7] {
+    [
+        forms.is_text(index),
+        forms.is_class_name(index),
+        forms.is_internal_name(index),
+        forms.is_member_name(index),
+        forms.is_field_descriptor(index),
+        forms.is_method_descriptor(true, index),
+        forms.is_method_descriptor(false, index),
+    ]
+}
+
+/// What the entries of these indices serve as, in the order above.
+const SERVED: [(u16, [bool; 7]); 9] = [
+    (0, [false; 7]),
+    (1, [true, true, true, false, false, false, false]),
+    (2, [false; 7]),
+    (3, [true, false, true, false, true, false, false]),
+    (5, [true, true, true, true, false, false, false]),
+    (6, [true, true, true, true, false, true, true]),
+    (9, [true, true, true, true, true, false, false]),
+    (14, [true, true, true, true, false, false, true]),
+    (15, [false; 7]),
+];
+
+// The sound pool, and behind it a descriptor whose parameters take 255 slots.
+fn with_long_descriptor(alloc: Global) -> Result<Vec<PoolEntry>, AllocError> {
     let mut bytes = b"(I".to_vec(alloc)?;
     bytes.resize(129, b'J')?;
     bytes.extend_from_slice(b")V")?;
-    Ok(PoolEntry::Utf8(ByteString::from_vec(bytes)))
+    let mut pool = sound_pool(alloc)?;
+    pool.push(PoolEntry::Utf8(ByteString::from_vec(bytes)))?;
+    Ok(pool)
 }
 
 #[test]
 fn texts_have_forms(rt: HostRuntime) -> Result<(), AllocError> {
-    let alloc = rt.alloc();
-    let mut pool = sound_pool(alloc)?;
-    pool.push(long_descriptor(alloc)?)?;
-    let forms = TextForms::judge(alloc, &pool)?;
-    assert!(rt; forms.is_text(1) && !forms.is_text(2) && !forms.is_text(0));
-    assert!(rt; forms.is_class_name(1) && !forms.is_class_name(3));
-    assert!(rt; forms.is_internal_name(3) && !forms.is_internal_name(15));
-    assert!(rt; forms.is_member_name(5) && !forms.is_member_name(1));
-    assert!(rt; forms.is_field_descriptor(9) && !forms.is_field_descriptor(6));
-    assert!(rt; forms.is_method_descriptor(true, 6) && !forms.is_method_descriptor(true, 9));
-    assert!(rt; forms.is_method_descriptor(false, 14) && !forms.is_method_descriptor(true, 14));
+    let pool = with_long_descriptor(rt.alloc())?;
+    let forms = TextForms::judge(rt.alloc(), &pool)?;
+    for (index, wanted) in SERVED {
+        assert!(rt; served(&forms, index) == wanted, "{index}");
+    }
     Ok(())
 }
 
@@ -144,43 +167,40 @@ fn fault_of(alloc: Global, major: u16, code: &[u8]) -> Result<Option<u32>, Alloc
     code_fault(alloc, major, &pool, &code_of(alloc, code, &[])?)
 }
 
-fn expect_fault(rt: &impl Abort, alloc: Global, major: u16, code: &[u8], want: Option<u32>) {
-    assert_eq!(rt; fault_of(alloc, major, code), Ok(want), "{code:?}");
-}
-
 #[test]
-fn operands_have_faults(rt: HostRuntime) {
+fn operands_have_faults(rt: HostRuntime) -> Result<(), AllocError> {
     for (major, code, want) in OPERANDS {
-        expect_fault(&rt, rt.alloc(), major, code, want);
+        assert!(rt; fault_of(rt.alloc(), major, code)? == want, "{code:?}");
     }
+    Ok(())
 }
 
 #[test]
-fn branches_have_faults(rt: HostRuntime) {
+fn branches_have_faults(rt: HostRuntime) -> Result<(), AllocError> {
     for (major, code, want) in BRANCHES {
-        expect_fault(&rt, rt.alloc(), major, code, want);
+        assert!(rt; fault_of(rt.alloc(), major, code)? == want, "{code:?}");
     }
+    Ok(())
 }
 
-// The fault of `nop`, `sipush` and `return`, at 0, 1 and 4, with an entry of these places.
-fn table_fault_of(
-    alloc: Global,
-    start: u16,
-    end: u16,
-    handler: u16,
-) -> Result<Option<u32>, AllocError> {
-    let entry = ExceptionEntry {
+/// An entry of an exception table.
+const fn entry(start: u16, end: u16, handler: u16) -> ExceptionEntry {
+    ExceptionEntry {
         start,
         end,
         handler,
         catch_type: 0,
-    };
+    }
+}
+
+// The fault of `nop`, `sipush` and `return`, at 0, 1 and 4, with the entry.
+fn table_fault_of(alloc: Global, entry: ExceptionEntry) -> Result<Option<u32>, AllocError> {
     let code = code_of(alloc, &[0, 17, 0, 0, 177], &[entry])?;
     code_fault(alloc, 49, &[], &code)
 }
 
 #[test]
-fn exception_tables_have_faults(rt: HostRuntime) {
+fn exception_tables_have_faults(rt: HostRuntime) -> Result<(), AllocError> {
     let cases = [
         (0, 4, 1, None),
         (0, 5, 4, None),
@@ -190,21 +210,23 @@ fn exception_tables_have_faults(rt: HostRuntime) {
         (0, 5, 5, Some(5)),
     ];
     for (start, end, handler, want) in cases {
-        let found = table_fault_of(rt.alloc(), start, end, handler);
-        assert_eq!(rt; found, Ok(want), "{start} to {end}, {handler}");
+        let found = table_fault_of(rt.alloc(), entry(start, end, handler))?;
+        assert!(rt; found == want, "{start} to {end}, {handler}");
     }
+    Ok(())
+}
+
+/// Whether instructions stand at these places of `nop`, `sipush` and `return` alone.
+fn stand_at(alloc: Global, places: &[u32]) -> Result<bool, AllocError> {
+    let Ok(starts) = Starts::find(alloc, &[0, 17, 0, 0, 177])? else {
+        return Ok(false);
+    };
+    let stands = (0..7u32).all(|place| starts.is_start(place) == places.contains(&place));
+    Ok(stands && starts.is_start_from(4, -3) && !starts.is_start_from(0, -1))
 }
 
 #[test]
 fn starts_are_found(rt: HostRuntime) -> Result<(), AllocError> {
-    let found = Starts::find(rt.alloc(), &[0, 17, 0, 0, 177])?;
-    match found {
-        Ok(starts) => {
-            assert!(rt; starts.is_start(0) && starts.is_start(1) && starts.is_start(4));
-            assert!(rt; !starts.is_start(2) && !starts.is_start(5));
-            assert!(rt; starts.is_start_from(4, -3) && !starts.is_start_from(0, -1));
-        }
-        Err(fault) => assert!(rt; false, "{fault}"),
-    }
+    assert!(rt; stand_at(rt.alloc(), &[0, 1, 4])?);
     Ok(())
 }
