@@ -203,8 +203,8 @@ fn listing_of(alloc: Global, class: &ClassFile) -> Result<Items<Listed>, AllocEr
 /// and so has code with a place where no instruction stands. That line is none of class text, so that a
 /// text with one is not read as a class.
 ///
-/// A name that the class file lacks is written `.`, and so is a blank or a line feed in a name: no name
-/// has a `.` (JVMS 4.2).
+/// The text is in UTF-8. A name that the class file lacks is written `.`, and so is a blank or a line
+/// feed in a name: no name has a `.` (JVMS 4.2).
 pub fn to_text(alloc: Global, class: &ClassFile) -> Result<Vec<u8>, AllocError>
     ensures exact { IfOk result (λ text. text.items ≡ rule.listing_text (rule.listing_of class.now)) }
 {
