@@ -21,3 +21,4 @@ pub mod FormRead
 pub mod LineForms
 pub mod LineParts
 pub mod TextLines
+pub mod WordKinds
