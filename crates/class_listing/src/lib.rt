@@ -11,3 +11,6 @@ mod places;
 mod walk;
 
 pub use listing::to_text;
+
+#[cfg(test)]
+mod tests_back;
