@@ -11,6 +11,3 @@ mod places;
 mod walk;
 
 pub use listing::to_text;
-
-#[cfg(test)]
-mod tests_back;

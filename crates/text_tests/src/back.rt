@@ -1,5 +1,5 @@
-use super::*;
 use class_file::{ClassFile, Content, PoolEntry};
+use class_listing::to_text;
 use class_text::{TextFault, to_class};
 
 /// Texts, and what the classes that they are are written as.
