@@ -1,0 +1,7 @@
+//! Worked examples of class text.
+#![tactic(auto)]
+
+#[cfg(test)]
+mod classes;
+#[cfg(test)]
+mod lines;
