@@ -3,34 +3,9 @@
 use crate::blocks::{NOP, add, lay, one};
 use crate::taken::{SWITCH, apart, code_of, entry_of};
 use class_file::CodeAttr;
-use code_layout::{Block, BlockTarget, Jump, LayoutFault, MethodCode, TakeApartFault};
+use code_layout::{Block, BlockTarget, Jump, LayoutFault, MethodCode};
 use opcode_table::Insn;
 use std::alloc::{AllocError, Global};
-
-/// Why code isn't laid out again.
-#[derive(Debug, Drop)]
-enum AgainFault {
-    Apart(TakeApartFault),
-    Layout(LayoutFault),
-}
-
-impl From<TakeApartFault> for AgainFault {
-    fn from(fault: TakeApartFault) -> AgainFault {
-        AgainFault::Apart(fault)
-    }
-}
-
-impl From<LayoutFault> for AgainFault {
-    fn from(fault: LayoutFault) -> AgainFault {
-        AgainFault::Layout(fault)
-    }
-}
-
-impl From<AllocError> for AgainFault {
-    fn from(_: AllocError) -> AgainFault {
-        AgainFault::Layout(LayoutFault::Memory)
-    }
-}
 
 /// The block of one instruction, which leads to the blocks of its old targets.
 fn same(alloc: Global, insn: Insn, jump: &Jump<u32>) -> Result<Block, AllocError> {
@@ -51,8 +26,10 @@ fn unchanged(alloc: Global, old: &MethodCode) -> Result<Vec<Block>, AllocError> 
 }
 
 /// The code taken apart and laid out again, with three `nop` behind the third instruction if asked.
-fn laid_again(alloc: Global, code: &CodeAttr, nops: bool) -> Result<CodeAttr, AgainFault> {
-    let old = apart(alloc, code)?;
+fn laid_again(alloc: Global, code: &CodeAttr, nops: bool) -> Result<CodeAttr, LayoutFault> {
+    let Ok(old) = apart(alloc, code) else {
+        return Err(LayoutFault::Memory);
+    };
     let mut blocks = unchanged(alloc, &old)?;
     if let Some(block) = blocks.get_mut(2)
         && nops
@@ -61,11 +38,11 @@ fn laid_again(alloc: Global, code: &CodeAttr, nops: bool) -> Result<CodeAttr, Ag
             add(alloc, block, NOP, &[], &[])?;
         }
     }
-    Ok(lay(alloc, &blocks, &old)?)
+    lay(alloc, &blocks, &old)
 }
 
 /// Whether the code is laid out again as it is.
-fn stays(alloc: Global, code: &CodeAttr) -> Result<bool, AgainFault> {
+fn stays(alloc: Global, code: &CodeAttr) -> Result<bool, LayoutFault> {
     let again = laid_again(alloc, code, false)?;
     Ok(
         again.code.as_slice() == code.code.as_slice()
@@ -82,7 +59,7 @@ fn far(alloc: Global) -> Result<CodeAttr, AllocError> {
 }
 
 #[test]
-fn unchanged_code_is_the_same(rt: HostRuntime) -> Result<(), AgainFault> {
+fn unchanged_code_is_the_same(rt: HostRuntime) -> Result<(), LayoutFault> {
     let switch = code_of(rt.alloc(), &SWITCH, entry_of(1, 24, 24))?;
     assert!(rt; stays(rt.alloc(), &switch)?);
     assert!(rt; stays(rt.alloc(), &far(rt.alloc())?)?);
@@ -90,7 +67,7 @@ fn unchanged_code_is_the_same(rt: HostRuntime) -> Result<(), AgainFault> {
 }
 
 #[test]
-fn a_far_branch_is_widened(rt: HostRuntime) -> Result<(), AgainFault> {
+fn a_far_branch_is_widened(rt: HostRuntime) -> Result<(), LayoutFault> {
     let code = laid_again(rt.alloc(), &far(rt.alloc())?, true)?;
     assert!(rt; code.code.len() == 32777);
     assert!(rt;

@@ -1,7 +1,9 @@
 //! Blocks, and the old code that they stand for.
 
 use class_file::CodeAttr;
-use code_layout::{Block, BlockTarget, Jump, LayoutFault, MethodCode, is_layable, lay_out};
+use code_layout::{
+    Block, BlockEntry, BlockTarget, Jump, LayoutFault, MethodCode, is_layable, lay_out,
+};
 use opcode_table::Insn;
 use sqlite_items::Items;
 use std::alloc::{AllocError, Global};
@@ -32,6 +34,16 @@ pub(crate) fn add(
     let to = Items::from_slice(alloc, to)?;
     block.insns.push(insn)?;
     block.targets.push(Jump { keys, to })
+}
+
+/// Adds a label.
+pub(crate) fn label(block: &mut Block, position: u32) -> Result<(), AllocError> {
+    block.labels.push(position)
+}
+
+/// Adds an entry of an exception table.
+pub(crate) fn cover(block: &mut Block, entry: BlockEntry) -> Result<(), AllocError> {
+    block.entries.push(entry)
 }
 
 /// A block of so many `nop`.

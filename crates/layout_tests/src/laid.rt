@@ -1,6 +1,6 @@
 //! Blocks laid out.
 
-use crate::blocks::{NOP, add, lay, nops, old_of, one};
+use crate::blocks::{NOP, add, cover, label, lay, nops, old_of, one};
 use class_file::ExceptionEntry;
 use code_layout::{Block, BlockEntry, BlockTarget, CodeEntry, LayoutFault, is_layable};
 use opcode_table::Insn;
@@ -51,7 +51,7 @@ fn table_switch(alloc: Global) -> Result<Block, AllocError> {
     ];
     let insn = Insn::TableSwitch { table: 0 };
     let mut block = nops(alloc, 2)?;
-    block.labels.push(1)?;
+    label(&mut block, 1)?;
     add(alloc, &mut block, insn, &[-1, 0], &to)?;
     Ok(block)
 }
@@ -100,14 +100,14 @@ const OLD: BlockEntry = BlockEntry {
 /// Three `nop` with an entry of their own, and a `return` with one whose range is of old instructions.
 fn covered(alloc: Global) -> Result<[Block; 2], AllocError> {
     let mut first = nops(alloc, 3)?;
-    first.labels.push(2)?;
-    first.entries.push(OWN)?;
+    label(&mut first, 2)?;
+    cover(&mut first, OWN)?;
     let mut second = one(alloc, RETURN, &[], &[])?;
-    second.entries.push(OLD)?;
+    cover(&mut second, OLD)?;
     Ok([first, second])
 }
 
-const fn entry(start: u16, end: u16, handler: u16, catch_type: u16) -> ExceptionEntry {
+fn entry(start: u16, end: u16, handler: u16, catch_type: u16) -> ExceptionEntry {
     ExceptionEntry {
         start,
         end,
@@ -137,17 +137,19 @@ fn own_entries_stand_before_old_ones(rt: HostRuntime) -> Result<(), LayoutFault>
     Ok(())
 }
 
+const ONE: BlockEntry = BlockEntry {
+    start: 0,
+    end: 1,
+    old_range: false,
+    handler: BlockTarget::Old(0),
+    catch_type: 0,
+};
+
 /// Why so many `nop` with so many entries aren't laid out.
 fn fault_of(alloc: Global, count: u32, entries: u32) -> Result<Option<LayoutFault>, AllocError> {
     let mut block = nops(alloc, count)?;
     for _ in 0..entries {
-        block.entries.push(BlockEntry {
-            start: 0,
-            end: 1,
-            old_range: false,
-            handler: BlockTarget::Old(0),
-            catch_type: 0,
-        })?;
+        cover(&mut block, ONE)?;
     }
     let old = old_of(alloc, 1)?;
     Ok(lay(alloc, &[block], &old).err())

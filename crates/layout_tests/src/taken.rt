@@ -12,7 +12,7 @@ pub(crate) const SWITCH: [u8; 28] = [
     167, 255, 232, 177,
 ];
 
-pub(crate) const fn entry_of(start: u16, end: u16, handler: u16) -> ExceptionEntry {
+pub(crate) fn entry_of(start: u16, end: u16, handler: u16) -> ExceptionEntry {
     ExceptionEntry {
         start,
         end,
@@ -89,38 +89,27 @@ fn code_is_taken_apart(rt: HostRuntime) -> Result<(), TakeApartFault> {
         catch_type: 0,
     };
     assert!(rt; switches(&code, &[-1, 0], &[2, 3, 0]));
-    assert!(rt; code.entries.as_slice() == &[entry]);
+    assert!(rt; code.entries.as_slice() == [entry].as_slice());
     assert!(rt; has_lines(&code, &[Line { start: 2, line: 5 }]));
     Ok(())
 }
 
-/// Code with an entry, and its fault.
-const WRONG: [(&[u8], ExceptionEntry, TakeApartFault); 5] = [
+/// Code with an entry of this start, end and handler, and its fault.
+const WRONG: [(&[u8], [u16; 3], TakeApartFault); 5] = [
     (
         &[0, 17, 0],
-        entry_of(0, 1, 9),
+        [0, 1, 9],
         TakeApartFault::Code(CodeFault::Cut(1)),
     ),
-    (
-        &[0, 167, 0, 2],
-        entry_of(0, 4, 9),
-        TakeApartFault::Target(1),
-    ),
-    (
-        &[0, 167, 255, 254],
-        entry_of(0, 4, 0),
-        TakeApartFault::Target(1),
-    ),
-    (&SWITCH, entry_of(0, 2, 9), TakeApartFault::Target(2)),
-    (&SWITCH, entry_of(0, 28, 28), TakeApartFault::Target(28)),
+    (&[0, 167, 0, 2], [0, 4, 9], TakeApartFault::Target(1)),
+    (&[0, 167, 255, 254], [0, 4, 0], TakeApartFault::Target(1)),
+    (&SWITCH, [0, 2, 9], TakeApartFault::Target(2)),
+    (&SWITCH, [0, 28, 28], TakeApartFault::Target(28)),
 ];
 
-fn fault_of(
-    alloc: Global,
-    bytes: &[u8],
-    entry: ExceptionEntry,
-) -> Result<MethodCode, TakeApartFault> {
-    let code = code_of(alloc, bytes, entry)?;
+fn fault_of(alloc: Global, bytes: &[u8], entry: [u16; 3]) -> Result<MethodCode, TakeApartFault> {
+    let [start, end, handler] = entry;
+    let code = code_of(alloc, bytes, entry_of(start, end, handler))?;
     apart(alloc, &code)
 }
 
