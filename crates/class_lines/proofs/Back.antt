@@ -1,14 +1,13 @@
 -- Bytes of modified UTF-8 that are characters are heard again from their UTF-8.
-use Rattle.std.proofs.Common.{◌≡◌, ℕ, zero, suc, ◌+◌, ◌-◌, ◌*◌, ◌/◌, ◌%◌, ◌<◌, ◌≤◌, Bool, true, false, cond, leb, ltb, eqb, ◌&&◌, List, [], ◌∷◌, ◌++◌, length, Option, Some, None, refl, sym, ap, subst, ◌∙◌, arith, inl, inr, append_assoc, length-append}
-use Rattle.std.specs.Prelude.{if◌then◌else◌, ◌==◌, option_map, nat_le, nat_lt}
-use Rattle.std.specs.List.{list_all}
-use Rattle.std.proofs.lemmas.Bool.{and_parts, and_from, and_left, and_right, le-leb, lt-ltb, lt-leb, eq-eqb, eqb-true, leb-true, ltb-true, ne_eqb, cases_eq, true≢false}
+use Rattle.std.proofs.Common.{◌≡◌, ℕ, zero, suc, ◌+◌, ◌*◌, ◌/◌, ◌%◌, ◌<◌, ◌≤◌, Bool, true, false, cond, leb, ltb, eqb, ◌&&◌, List, [], ◌∷◌, ◌++◌, length, Option, Some, None, refl, sym, ap, subst, ◌∙◌, arith, inl, inr, append_assoc, length-append}
+use Rattle.std.specs.Prelude.{option_map, nat_le, nat_lt}
+use Rattle.std.proofs.lemmas.Bool.{and_parts, and_from, and_left, and_right, le-leb, lt-ltb, lt-leb, eq-eqb, leb-true, ltb-true, ne_eqb, cases_eq, true≢false}
 use Rattle.std.proofs.lemmas.List.{append-nil}
-use Rattle.aj_names.specs.ModifiedUtf8.{unit_spelling, text_spelling}
+use Rattle.aj_names.specs.ModifiedUtf8.{unit_spelling}
 use Rattle.class_file.specs.Text.{within}
 use Rattle.class_lines.specs.declared.recoding.Code.{Code}
 use Rattle.class_lines.specs.Words.{◌>>=◌, Text}
-use Rattle.class_lines.specs.Recoding.{goes_on, is_second_of_three, is_second_of_four, four_value, high_of, low_of, code_bytes, two_at, three_at, four_at, character_at, characters, modified}
+use Rattle.class_lines.specs.Recoding.{is_second_of_three, is_second_of_four, four_value, high_of, low_of, code_bytes, two_at, three_at, four_at, character_at, characters, modified}
 use Rattle.class_lines.specs.Units.{unit_of_three}
 use Rattle.class_lines.specs.Utf8.{four_bytes, is_surrogate, is_pair, surrogate_bits, utf8_of}
 use Rattle.class_lines.specs.Pairs.{pair_at}

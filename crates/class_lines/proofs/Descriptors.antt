@@ -1,5 +1,5 @@
 -- Names and descriptors are of characters (JVMS 4.2, 4.3).
-use Rattle.std.proofs.Common.{◌≡◌, ℕ, zero, suc, ◌+◌, ◌<◌, ◌≤◌, Bool, true, false, not, ◌&&◌, ◌||◌, cond, List, [], ◌∷◌, ◌++◌, length, take, drop, get_or, Option, Some, None, Ok, Err, refl, sym, ap, subst, ◌∙◌, arith, ⊎_elim}
+use Rattle.std.proofs.Common.{◌≡◌, ℕ, zero, suc, ◌+◌, ◌<◌, Bool, true, false, not, ◌&&◌, ◌||◌, cond, List, [], ◌∷◌, ◌++◌, length, take, drop, get_or, Option, Some, None, Ok, Err, refl, sym, ap, subst, ◌∙◌, arith, ⊎_elim}
 use Rattle.std.specs.Prelude.{if◌then◌else◌, ◌==◌, nat_lt, nat_le}
 use Rattle.std.specs.List.{list_all, position, take_while}
 use Rattle.std.proofs.lemmas.Bool.{and_parts, and_from, or_cases, eqb-true}
@@ -7,9 +7,8 @@ use Rattle.std.proofs.lemmas.List.{take-append-drop}
 use Rattle.std.proofs.lemmas.List.Sums.{take_while-cons}
 use Rattle.std.proofs.lemmas.List.Quantifiers.{position-Some}
 use Rattle.std.proofs.Math.Seq.{drop-cons}
-use Rattle.class_file.specs.Text.{within, is_utf8, is_paired, is_name_byte, is_name_text, has_parts, is_class_name, is_member_name, is_not_slash, Typed, up_to, class_type, is_wide_letter, is_narrow_letter, base_type, as_array, with_dimensions, dimensions, field_type, is_ended, is_field_descriptor, is_array_descriptor, is_result, further, go_on, parameters, is_method_descriptor, is_method_descriptor_with, is_internal_name}
+use Rattle.class_file.specs.Text.{within, is_utf8, is_paired, is_name_byte, is_name_text, has_parts, is_class_name, is_member_name, is_not_slash, Typed, up_to, class_type, is_wide_letter, is_narrow_letter, base_type, as_array, with_dimensions, dimensions, field_type, is_ended, is_field_descriptor, is_array_descriptor, is_result, further, go_on, parameters, is_method_descriptor_with, is_internal_name}
 use Rattle.class_lines.specs.Lines.{is_free, are_characters}
-use Rattle.class_lines.proofs.Fronts.{IsValid}
 use Rattle.class_lines.proofs.Back.{Spelled, spelled_nil, spelled_append, spelled_one, valid_spelled}
 
 -- ---- names

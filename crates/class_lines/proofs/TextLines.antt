@@ -1,17 +1,15 @@
 -- A line that is printed in UTF-8 is heard again, and is one line.
-use Rattle.std.proofs.Common.{◌≡◌, ℕ, ◌+◌, ◌*◌, ◌-◌, ◌^◌, ◌/◌, ◌%◌, ◌<◌, ◌≤◌, Bool, true, false, not, cond, ◌&&◌, List, [], ◌∷◌, ◌++◌, length, Option, Some, None, refl, sym, ap, subst, ◌∙◌, arith}
+use Rattle.std.proofs.Common.{◌≡◌, ℕ, ◌+◌, ◌*◌, ◌-◌, ◌^◌, ◌/◌, ◌%◌, Bool, true, false, cond, ◌&&◌, List, [], ◌∷◌, ◌++◌, Option, Some, None, refl, ap, ◌∙◌, arith}
 use Rattle.std.specs.Prelude.{◌==◌, ◌||◌, nat_le, nat_lt, int_lt, ℤ, negsuc}
 use Rattle.std.specs.List.{list_all, AllByRecursion}
 use Rattle.std.proofs.lemmas.Bool.{and_parts, and_from, leb-true, ltb-true, le-leb, lt-ltb, ne_eqb, or_parts, not-true, not_from_false}
 use Rattle.std.proofs.lemmas.List.Folds.{list_all-append}
-use Rattle.class_file.specs.Text.{within}
 use Rattle.class_lines.specs.declared.line.Line.{Line}
 use Rattle.class_lines.specs.declared.line.Operation.{Operation}
 use Rattle.class_lines.specs.declared.line.Case.{Case}
 use Rattle.class_lines.specs.declared.words.WordKind.{WordKind}
 use Rattle.class_lines.specs.Fields.{is_blank, is_inside}
-use Rattle.class_lines.specs.Words.{◌>>=◌, Text, is_plain, fits}
-use Rattle.class_lines.specs.Recoding.{modified}
+use Rattle.class_lines.specs.Words.{◌>>=◌, Text, fits}
 use Rattle.class_lines.specs.Reading.{read_as}
 use Rattle.class_lines.specs.Heard.{heard}
 use Rattle.class_lines.specs.Lines.{are_characters, has_text_targets, is_text_or_none, has_text_labels, is_integer, are_cases, is_label_or_none, is_operation, is_line}

@@ -1,27 +1,26 @@
 -- The code of a class that came from lines is written as those lines, with the labels of places.
-use Rattle.std.proofs.Common.{◌≡◌, ℕ, zero, suc, ◌+◌, ◌<◌, ◌≤◌, Bool, true, false, not, cond, ◌&&◌, List, [], ◌∷◌, ◌++◌, length, map, Option, Some, None, Ok, refl, sym, ap, subst, ◌∙◌, arith, append_assoc, ℤ, pos, ◌+ℤ◌, ◌-ℤ◌}
-use Rattle.std.specs.Prelude.{if◌then◌else◌, ◌==◌, ◌||◌, nat_lt, option_and_then, codes}
+use Rattle.std.proofs.Common.{◌≡◌, ℕ, zero, suc, ◌+◌, ◌≤◌, Bool, true, false, not, ◌&&◌, List, [], ◌∷◌, ◌++◌, map, Option, Some, None, refl, sym, ap, subst, ◌∙◌, arith, append_assoc, ℤ, pos, ◌+ℤ◌}
+use Rattle.std.specs.Prelude.{if◌then◌else◌, ◌||◌, codes}
 use Rattle.std.specs.List.{AllByRecursion, AllZip, flat_map, list_any}
 use Rattle.std.specs.Str.{bytes_eq}
-use Rattle.std.proofs.lemmas.Bool.{and_parts, and_from, not-true, or_left, or_right, eq-eqb, lt-ltb}
+use Rattle.std.proofs.lemmas.Bool.{and_parts, and_from, not-true, or_left, or_right, eq-eqb}
 use Rattle.class_file.specs.declared.pool.PoolEntry.{PoolEntry}
 use Rattle.class_file.specs.declared.types.CodeAttr.{CodeAttr}
 use Rattle.class_file.specs.declared.types.ExceptionEntry.{ExceptionEntry}
-use Rattle.class_file.specs.Pool.{as_class, class_at}
 use Rattle.class_file.specs.Code.{Placed, offsets}
 use Rattle.class_lines.specs.declared.line.Line.{Line}
 use Rattle.class_lines.specs.declared.line.Operation.{Operation}
 use Rattle.class_lines.specs.Words.{Text, fits}
-use Rattle.class_lines.specs.Lines.{is_operation, is_label_or_none, is_caught, is_line, are_characters, has_text_targets, is_text_or_none, has_text_labels}
+use Rattle.class_lines.specs.Lines.{is_operation, is_label_or_none, is_caught, is_line, are_characters, has_text_targets, has_text_labels}
 use Rattle.class_lines.proofs.WordKinds.{type_kind, label_kind}
 use Rattle.class_text.proofs.NumberedLines.{NumberedLine as Numbered}
-use Rattle.class_text.specs.Labels.{size_at, is_end, place_of, distance}
-use Rattle.class_text.specs.Meaning.{insn_of, labels_of, HasKeys, Names, Labelled, step_in, steps_in, Guard, guard_in, guards_in, StandsIn, IsStep, IsCaught, IsGuard, AreInRow, IsCode}
+use Rattle.class_text.specs.Labels.{size_at, place_of, distance}
+use Rattle.class_text.specs.Meaning.{labels_of, Labelled, steps_in, Guard, guards_in, StandsIn, IsStep, IsCaught, IsGuard, AreInRow, IsCode}
 use Rattle.class_text.proofs.Numbers.{back}
 use Rattle.class_text.proofs.Steps.{OfForm, AreOfForm}
 use Rattle.class_text.proofs.Relabelled.{label_at as label_where, renamed, AreMarked, RenamesGuard}
 use Rattle.class_text.proofs.SameClass.{RenamedFrom, Body}
-use Rattle.class_listing.specs.Names.{class_shown, caught_name, caught, label, shown}
+use Rattle.class_listing.specs.Names.{caught_name, caught, label, shown}
 use Rattle.class_listing.specs.Steps.{operation_of, leads_to, bounds_of, named_places, is_at, label_at, step, catch_line, lines_of}
 use Rattle.class_listing.proofs.Labels.{label_of, label_is, apart, label_fits, label_shown, label_characters}
 use Rattle.class_listing.proofs.Shown.{class_is}

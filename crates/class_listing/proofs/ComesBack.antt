@@ -1,7 +1,7 @@
 -- A class that came from a text comes back from its listing.
-use Rattle.std.proofs.Common.{◌≡◌, ℕ, ◌+◌, Bool, true, false, cond, ◌&&◌, List, [], ◌∷◌, ◌++◌, length, map, Option, Some, None, Result, Ok, Err, refl, sym, ap, subst, ◌∙◌, append_assoc}
+use Rattle.std.proofs.Common.{◌≡◌, ℕ, ◌+◌, Bool, true, ◌&&◌, List, [], ◌∷◌, ◌++◌, length, map, Option, Some, None, Result, Ok, Err, refl, sym, ap, ◌∙◌, append_assoc}
 use Rattle.std.specs.Prelude.{if◌then◌else◌, ◌==◌, nat_le, IfOk}
-use Rattle.std.specs.List.{AllByRecursion, flat_map, list_all, cons_option}
+use Rattle.std.specs.List.{flat_map, list_all, cons_option}
 use Rattle.std.proofs.lemmas.Bool.{and_parts, not-true}
 use Rattle.std.proofs.lemmas.List.{append-nil, map-append}
 use Rattle.class_file.specs.declared.types.ClassFile.{ClassFile}
@@ -9,26 +9,25 @@ use Rattle.class_file.specs.declared.types.Attribute.{Attribute}
 use Rattle.class_file.specs.Text.{within}
 use Rattle.class_lines.specs.declared.line.Line.{Line}
 use Rattle.class_lines.specs.Words.{Text, fits}
-use Rattle.class_lines.specs.Heard.{heard}
-use Rattle.class_lines.specs.Lines.{is_line, has_text_labels}
+use Rattle.class_lines.specs.Lines.{is_line}
 use Rattle.class_lines.specs.Printing.{line_text}
 use Rattle.class_lines.specs.Utf8.{utf8_of, is_no_feed, is_one_line}
 use Rattle.class_lines.proofs.WordKinds.{class_kind}
 use Rattle.class_lines.proofs.TextLines.{line_heard, line_is_one}
 use Rattle.class_text.proofs.NumberedLines.{NumberedLine as Numbered}
-use Rattle.class_text.specs.Texts.{put_front, lines, said, line_numbered, numbered}
-use Rattle.class_text.specs.ClassOf.{first_wrong, judged, class_of_lines, class_of}
+use Rattle.class_text.specs.Texts.{put_front, lines, said, numbered}
+use Rattle.class_text.specs.ClassOf.{first_wrong, judged, class_of}
 use Rattle.class_text.specs.Meaning.{IsClassOf, Means}
-use Rattle.class_text.proofs.Steps.{OfForm, AreOfForm}
+use Rattle.class_text.proofs.Steps.{AreOfForm}
 use Rattle.class_text.proofs.WellFormed.{numbered_form, text_is_good}
 use Rattle.class_text.proofs.SameFile.{Listing, lines_again}
 use Rattle.class_listing.specs.declared.listed.Listed.{Listed}
 use Rattle.class_listing.specs.Names.{class_shown}
-use Rattle.class_listing.specs.Listing.{attribute, field, method, class_line, listing_of, listed_text, listing_text}
+use Rattle.class_listing.specs.Listing.{attribute, field, method, class_line, listing_of, listing_text}
 use Rattle.class_listing.proofs.Labels.{label_of, apart}
 use Rattle.class_listing.proofs.Shown.{class_is, classes_are}
-use Rattle.class_listing.proofs.Bodies.{from_number, behind, numbers_append, IsGood, AreGood, good_append}
-use Rattle.class_listing.proofs.Parts.{FieldLines, fields_listed, MethodsListed, methods_listed}
+use Rattle.class_listing.proofs.Bodies.{from_number, behind, numbers_append, AreGood, good_append}
+use Rattle.class_listing.proofs.Parts.{fields_listed, methods_listed}
 
 -- ---- the lines of a text
 

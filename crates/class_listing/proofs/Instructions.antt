@@ -1,5 +1,5 @@
 -- An instruction of a class that came from lines is written as its line was, with the labels of places.
-use Rattle.std.proofs.Common.{◌≡◌, ℕ, zero, suc, ◌+◌, ◌-◌, ◌^◌, ◌<◌, ◌≤◌, Bool, true, false, not, cond, ◌&&◌, List, [], ◌∷◌, ◌++◌, length, map, Option, Some, None, refl, sym, ap, subst, ◌∙◌, arith, inl, inr, ℤ, pos, negsuc, ◌+ℤ◌, ◌-ℤ◌}
+use Rattle.std.proofs.Common.{◌≡◌, ℕ, zero, suc, ◌+◌, ◌-◌, ◌^◌, ◌<◌, ◌≤◌, Bool, true, false, ◌&&◌, List, [], ◌∷◌, ◌++◌, length, map, Option, Some, None, refl, sym, ap, subst, ◌∙◌, arith, inl, inr, ℤ, pos, negsuc, ◌+ℤ◌}
 use Rattle.std.specs.Prelude.{if◌then◌else◌, ◌==◌, ◌||◌, nat_le, nat_lt, int_lt, option_and_then}
 use Rattle.std.specs.List.{AllByRecursion, list_all}
 use Rattle.std.proofs.lemmas.Bool.{and_parts, and_from, and_right, lt-leb, le-leb, lt-ltb, leb-true, ltb-true, ne_eqb, eqb-true, cases_eq}
@@ -8,7 +8,7 @@ use Rattle.opcode_table.specs.declared.insn.Insn.{Insn}
 use Rattle.opcode_table.specs.Decoding.{table_place, switch_default, table_low, table_count, table_offset, pair_count, pair_key, pair_offset}
 use Rattle.class_file.specs.declared.pool.PoolEntry.{PoolEntry}
 use Rattle.class_file.specs.declared.pool.PoolEntry.TheVariants as entry
-use Rattle.class_file.specs.Pool.{Reference, entry_at, text_at, as_class, class_at, as_string, string_at, referred, as_field, field_at, as_method, method_at}
+use Rattle.class_file.specs.Pool.{Reference, entry_at, as_class, as_string, as_field, field_at, as_method, method_at}
 use Rattle.class_file.specs.Code.{numbered, offsets}
 use Rattle.class_file.specs.Text.{within, dimensions}
 use Rattle.class_lines.specs.declared.line.Operation.{Operation}
@@ -21,10 +21,10 @@ use Rattle.class_lines.proofs.LinesRead.{either_of}
 use Rattle.class_text.proofs.NumberedLines.{NumberedLine as Numbered}
 use Rattle.class_text.specs.Labels.{place_of, distance}
 use Rattle.class_text.specs.Bytes.{argument_slots}
-use Rattle.class_text.specs.Meaning.{insn_of, labels_of, HasKeys, NamesConstant, NamesMember, entry_of, Names, StandsIn}
+use Rattle.class_text.specs.Meaning.{insn_of, labels_of, HasKeys, NamesConstant, NamesMember, Names, StandsIn}
 use Rattle.class_text.proofs.Numbers.{back}
 use Rattle.class_text.proofs.Relabelled.{place_or, renamed, renamed_case, relabel}
-use Rattle.class_listing.specs.Names.{shown, text_shown, class_shown, interface_method_at, as_interface_method, label}
+use Rattle.class_listing.specs.Names.{shown, class_shown, interface_method_at, as_interface_method, label}
 use Rattle.class_listing.specs.Steps.{no_constant, string_constant, class_constant, constant_of, wide_constant_of, member_of, pool_operation, target, case_at, operation_of}
 use Rattle.class_listing.proofs.Labels.{label_of, label_is, apart, label_fits, label_characters}
 use Rattle.class_listing.proofs.Shown.{word_shown, text_is, class_is}

@@ -1,14 +1,13 @@
 -- Labels of places in the code.
-use Rattle.std.proofs.Common.{◌≡◌, ◌≢◌, ℕ, zero, suc, ◌+◌, ◌/◌, ◌%◌, ◌^◌, ◌<◌, ◌≤◌, Bool, true, false, not, cond, ◌&&◌, List, [], ◌∷◌, length, drop, refl, sym, ap, subst, ◌∙◌, arith, Some, pos}
+use Rattle.std.proofs.Common.{◌≡◌, ◌≢◌, ℕ, zero, suc, ◌+◌, ◌/◌, ◌%◌, ◌<◌, ◌≤◌, Bool, true, false, ◌&&◌, [], ◌∷◌, length, drop, refl, sym, ap, ◌∙◌, arith, Some, pos}
 use Rattle.std.specs.Prelude.{if◌then◌else◌, ◌==◌, nat_lt, nat_le}
 use Rattle.std.specs.List.{list_all}
 use Rattle.std.specs.Fmt.{decimal, digits, digits_onto, digit_glyph}
-use Rattle.std.proofs.lemmas.Bool.{and_parts, and_from, le-leb, lt-ltb, leb-true, ltb-true, ltb-false, ne_eqb, not_from_false}
+use Rattle.std.proofs.lemmas.Bool.{and_parts, and_from, le-leb, lt-ltb, leb-true, ltb-true, ne_eqb, not_from_false}
 use Rattle.std.proofs.lemmas.Fmt.{decimal_injective}
-use Rattle.class_file.specs.Text.{within, begun, utf8_from, is_utf8, is_paired}
+use Rattle.class_file.specs.Text.{is_utf8, is_paired}
 use Rattle.class_lines.specs.Fields.{is_inside}
 use Rattle.class_lines.specs.Words.{Text, is_plain, is_label_byte, is_label, is_of_kind, fits}
-use Rattle.class_lines.specs.Reading.{is_passed_over}
 use Rattle.class_lines.specs.Lines.{is_free, are_characters, is_label_or_none}
 use Rattle.class_lines.proofs.WordKinds.{label_kind}
 use Rattle.class_lines.proofs.NumbersRead.{key_signed, plain_signed}

@@ -1,6 +1,6 @@
 -- The members of a class that came from lines are written as those lines were, with the labels of places.
-use Rattle.std.proofs.Common.{◌≡◌, ℕ, ◌+◌, ◌<◌, ◌≤◌, Bool, true, cond, ◌&&◌, List, [], ◌∷◌, ◌++◌, length, map, Option, Some, None, Result, Ok, Err, refl, sym, ap, subst, ◌∙◌, arith, append_assoc}
-use Rattle.std.specs.Prelude.{if◌then◌else◌, nat_lt, nat_le}
+use Rattle.std.proofs.Common.{◌≡◌, ℕ, ◌+◌, ◌≤◌, Bool, true, ◌&&◌, List, [], ◌∷◌, ◌++◌, length, map, Option, Some, None, Ok, refl, sym, ap, subst, ◌∙◌, arith}
+use Rattle.std.specs.Prelude.{if◌then◌else◌, nat_le}
 use Rattle.std.specs.List.{AllByRecursion, AllZip, flat_map}
 use Rattle.std.proofs.lemmas.Bool.{and_parts, lt-ltb}
 use Rattle.std.proofs.lemmas.List.{append-nil, map-append}
@@ -9,7 +9,6 @@ use Rattle.class_file.specs.declared.types.CodeAttr.{CodeAttr}
 use Rattle.class_file.specs.declared.types.CodeAttribute.{CodeAttribute}
 use Rattle.class_file.specs.declared.types.Member.{Member}
 use Rattle.class_file.specs.declared.types.Attribute.{Attribute}
-use Rattle.class_file.specs.declared.types.Content.{Content}
 use Rattle.class_file.specs.declared.types.Content.TheVariants as content
 use Rattle.class_file.specs.Code.{Placed, instructions}
 use Rattle.class_lines.specs.declared.line.Line.{Line}
@@ -19,7 +18,7 @@ use Rattle.class_lines.specs.Heads.{takes_few}
 use Rattle.class_lines.specs.Lines.{is_head, is_line}
 use Rattle.class_lines.proofs.WordKinds.{Kind, member_kind, field_kind, method_kind}
 use Rattle.class_text.proofs.NumberedLines.{NumberedLine as Numbered}
-use Rattle.class_text.specs.Meaning.{Coded, MethodLines, field_in, fields_in, method_in, methods_in, IsNamed, IsField, IsCode, HasCode, HasBody, IsMethod}
+use Rattle.class_text.specs.Meaning.{Coded, MethodLines, fields_in, methods_in, IsNamed, IsField, HasCode, HasBody, IsMethod}
 use Rattle.class_text.proofs.Steps.{OfForm, AreOfForm}
 use Rattle.class_text.proofs.SameFile.{AreFields, Block, Blocks}
 use Rattle.class_listing.specs.declared.listed.Listed.{Listed}
@@ -28,7 +27,7 @@ use Rattle.class_listing.specs.Steps.{lines_of, found, insns_of}
 use Rattle.class_listing.specs.Listing.{attribute, code_attribute, body, method_attribute, head, field, code_of, method_line, method}
 use Rattle.class_listing.proofs.Labels.{label_of, apart}
 use Rattle.class_listing.proofs.Shown.{text_is}
-use Rattle.class_listing.proofs.Bodies.{from_number, behind, numbers_append, IsGood, AreGood, good_append, body_lines, body_is, body_good}
+use Rattle.class_listing.proofs.Bodies.{from_number, behind, numbers_append, AreGood, good_append, body_lines, body_is, body_good}
 
 -- ---- heads
 
