@@ -1,0 +1,5 @@
+pub mod Programs
+pub mod Runs
+pub mod Parts
+pub mod Moves
+pub mod Entries

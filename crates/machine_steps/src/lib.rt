@@ -1,0 +1,8 @@
+//! Steps of the class machine: which state of its definition a state in memory stands for, and what
+//! becomes of a state once the running frame has made its turn (The Java Virtual Machine
+//! Specification, second edition, 3.6.4, 3.6.5 and 3.10).
+#![tactic(auto)]
+
+mod step;
+
+pub use step::Step;
