@@ -46,10 +46,10 @@ pub record IsFormed (k : Known) (state : MachineState) : Type 0 where
 abbrev pub answers_left : Script → List Answer
 answers_left script = drop script.next script.answers
 
-pub record Runs (m : Machine) (state : MachineState) (answers : List Answer) (t : State Place) : Type 0 where
+pub record Runs (m : Machine) (state : MachineState) (left : List Answer) (t : State Place) : Type 0 where
   pub shares : Shares m.setting state.heap (others_of state) t.world
   pub frames : HasFrames m.setting.heads m.methods state t
-  pub answers : t.world.answers ≡ map machine_answer answers
+  pub answers : t.world.answers ≡ map machine_answer left
 
 -- ---- steps
 
