@@ -3,3 +3,7 @@ pub mod Runs
 pub mod Parts
 pub mod Moves
 pub mod Entries
+pub mod Methods
+pub mod Running
+pub mod Within
+pub mod Going

@@ -3,6 +3,10 @@
 //! Specification, second edition, 3.6.4, 3.6.5 and 3.10).
 #![tactic(auto)]
 
+mod going;
+mod running;
 mod step;
 
+pub use going::go_on;
+pub use running::{class_name, code_of_method, running_code, stands_at};
 pub use step::Step;
