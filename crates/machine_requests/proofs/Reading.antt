@@ -117,7 +117,7 @@ get_answer things others r at index known s w has distinct shares =
     let q = declared s.classes r in
     subst (λ (reply : Reply). Replies s things others w reply (if_instance s.classes (place_name s things at.0) q.class (answers.Gives (read_field w (place_name s things at.0) q) w))) (get_gives o)
     (subst (λ (b : Bool). Replies s things others w (Gives (unwrap_or o Null)) (if b then answers.Gives (read_field w (place_name s things at.0) q) w else answers.Refuses)) (sym (has.is at refl)) (
-      sym (read_same s things others w at.0 index q distinct shares below (has.place at refl)),
+      sym (read_same s things others w at.0 index q distinct shares below (has.place at refl refl)),
       settled_or_null (length things.names) o (λ v e. settled_in (length things.names) (slice_get things.names at.0) (slice_get things.contents at.0) index v (λ v' f. value_settled s things others w at.0 index v' shares f) e),
       shares,
     ))

@@ -1,9 +1,10 @@
 -- Objects, their classes and their fields.
-use Rattle.std.specs.Prelude.{◌≡◌, ℕ, suc, Bool, true, if◌then◌else◌, nat_lt, List, [], ◌∷◌, map, length, slice_get, Option, Some, None}
+use Rattle.std.specs.Prelude.{◌≡◌, ℕ, suc, ◌<◌, Bool, true, if◌then◌else◌, nat_lt, List, [], ◌∷◌, map, length, slice_get, Option, Some, None}
 use Rattle.std.specs.Option.{option_map}
 use Rattle.aj_names.specs.declared.types.FieldType.{FieldType}
 use Rattle.class_file.specs.Pool.{Reference}
 use Rattle.class_heads.specs.Hierarchy.{name_at}
+use Rattle.class_machine.specs.declared.kinds.Element.{Element}
 use Rattle.class_machine.specs.Values.{class_of}
 use Rattle.class_machine.specs.Descriptors.{element_of}
 use Rattle.class_machine.specs.Classes.{same_member}
@@ -18,7 +19,7 @@ use Rattle.machine_values.specs.declared.names.Name.{Name}
 use Rattle.machine_values.specs.declared.names.Name.TheVariants.{Made}
 use Rattle.machine_values.specs.declared.content.Content.{Content}
 use Rattle.machine_values.specs.declared.content.Content.TheVariants.{Values}
-use Rattle.machine_values.specs.Standing.{name_of}
+use Rattle.machine_values.specs.Standing.{name_in, name_of}
 use Rattle.machine_values.specs.Things.{Things}
 use Rattle.machine_requests.specs.declared.reply.Reply.{Reply}
 use Rattle.machine_requests.specs.declared.reply.Reply.TheVariants.{Gives}
@@ -68,7 +69,15 @@ abbrev pub field_place : List Reference → Reference → Option ℕ
 field_place [] r = None
 field_place (f ∷ fields) r = if same_member f r then Some 0 else option_map suc (field_place fields r)
 
--- whether the object is one of the class that declares the field, and the field's number among those of the object
+-- whether the object is one of the class that declares the field, and then the field's number among those of the object
 pub record HasField (things : Things) (object : Option Ref) (r : Reference) (instance : Bool) (index : ℕ) (s : Setting) : Type 0 where
   pub is : (at : Ref) → object ≡ Some at → s.classes.is_subtype (class_of (name_of s.heads things.names at)) (declared s.classes r).class ≡ instance
-  pub place : (at : Ref) → object ≡ Some at → field_place (s.classes.fields (class_of (name_of s.heads things.names at))) (declared s.classes r) ≡ Some index
+  pub place : (at : Ref) → object ≡ Some at → instance ≡ true → field_place (s.classes.fields (class_of (name_of s.heads things.names at))) (declared s.classes r) ≡ Some index
+
+-- the field holds such values
+pub record HoldsSuch (r : Reference) (e : Element) (s : Setting) : Type 0 where
+  pub element : element_of (declared s.classes r).member.descriptor ≡ e
+
+-- each object has a value for each field of its class
+pub record AreFilled (things : Things) (s : Setting) : Type 0 where
+  pub each : (at : ℕ) → at < length things.names → length (fields_at things at) ≡ length (s.classes.fields (class_of (name_in s.heads (slice_get things.names at))))

@@ -17,7 +17,7 @@ mod statics;
 mod types;
 
 pub use arrays::{array_length, array_load, array_store};
-pub use fields::get_field;
+pub use fields::{get_field, put_field};
 pub use laws::{
     class_names_are_plain, constant_shares, due_stays, frames_stay, make_shares, makers_tell,
     places_tell, represents, store_shares, values_stay,
