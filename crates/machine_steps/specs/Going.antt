@@ -1,17 +1,17 @@
 -- What goes on when the running frame has made its turn, and the others wait.
-use Rattle.std.specs.Prelude.{◌≡◌, ℕ, ◌≤◌, true, false, is_some, if◌then◌else◌, List, [], ◌∷◌, ◌++◌, map, reverse, length, Option, Some, None, option_and_then, refl}
+use Rattle.std.specs.Prelude.{◌≡◌, ℕ, ◌≤◌, true, false, is_some, if◌then◌else◌, List, [], ◌∷◌, ◌++◌, map, reverse, length, Option, Some, None, refl}
 use Rattle.std.specs.List.{AllByRecursion}
 use Rattle.std.specs.Option.{option_map}
 use Rattle.std.proofs.Common.{sym, ◌∙◌, ap, subst, arith, length-append}
 use Rattle.std.proofs.lemmas.List.{reverse-append, append-nil}
-use Rattle.class_file.specs.Pool.{Reference}
+use Rattle.aj_names.specs.declared.ids.MethodId.{MethodId}
 use Rattle.class_world.specs.Tables.{Known}
 use Rattle.class_machine.specs.Turn as turns
 use Rattle.class_machine.specs.World.{World}
 use Rattle.class_machine.specs.Machine as machines
 use Rattle.class_machine.specs.Events as events
 use Rattle.class_machine.specs.Machine.{State}
-use Rattle.class_machine.specs.ClassFiles.{Place, MethodCode, place_in, line_at, method_code, class_code}
+use Rattle.class_machine.specs.ClassFiles.{Place, MethodCode, place_in, line_at, class_code}
 use Rattle.class_machine.specs.Operations as operations
 use Rattle.machine_code.specs.declared.method_code.MethodCode as lent
 use Rattle.machine_code.specs.declared.operation.Operation.{Operation}
@@ -24,14 +24,13 @@ use Rattle.machine_values.specs.declared.script.Answer.{Answer}
 use Rattle.machine_values.specs.declared.state.MachineState.{MachineState}
 use Rattle.machine_values.specs.Things.{Things}
 use Rattle.machine_values.specs.Observed.{machine_answer}
-use Rattle.machine_values.specs.States.{machine_frame, machine_due, IsFrameWithin, IsDueWithin}
-use Rattle.machine_requests.specs.Shares.{Shares, HasFrames, others_of}
-use Rattle.machine_requests.specs.Replies.{IsLonger}
+use Rattle.machine_values.specs.States.{machine_due, IsFrameWithin, IsDueWithin}
+use Rattle.machine_requests.specs.Shares.{Shares, others_of}
 use Rattle.machine_requests.specs.Growth.{frames_stay, due_stays}
 use Rattle.machine_steps.specs.declared.step.Step.{Step}
 use Rattle.machine_steps.specs.declared.step.Step.TheVariants.{Went, Ended}
 use Rattle.machine_steps.specs.Programs.{Machine, IsMachine}
-use Rattle.machine_steps.specs.Runs.{Runs, Stepped}
+use Rattle.machine_steps.specs.Runs.{IsMethod, IsDueFormed, IsFormed, Runs, Stepped}
 use Rattle.machine_steps.specs.Moves.{Turning, moved_by, Moves, goes_on}
 use Rattle.machine_steps.specs.Running.{seen_by, waiting, TellsPlace, top_first, all_front, all_last, all_pushed, frames_are, moves_at, GoesOn, Turned}
 use Rattle.machine_steps.specs.Within.{frames_more, due_more}
@@ -95,6 +94,18 @@ turned_runs m old new answers t rest f g turned within runs =
     })
     (subst P (sym turned.same) runs.shares) runs.answers
     )
+
+pub formed_turned : (k : Known) (old new : MachineState) (rest : List Frame) (f g : Frame) → Turned old new rest f g → g.method ≡ f.method → IsFormed k old → IsFormed k new
+formed_turned k old new rest f g turned method formed =
+    let P : List Frame → Type 0 = AllByRecursion (λ (h : Frame). IsMethod k h.method.0) in
+    let all : P (rest ++ f ∷ []) = subst P turned.before formed.frames in
+    let one : IsMethod k f.method.0 = all_last (λ (h : Frame). IsMethod k h.method.0) rest f all in
+    record {
+      statics = ap (λ (s : MachineState). length s.statics) turned.same ∙ formed.statics;
+      begun = ap (λ (s : MachineState). length s.begun) turned.same ∙ formed.begun;
+      frames = subst P (sym turned.after) (all_pushed (λ (h : Frame). IsMethod k h.method.0) rest g (all_front (λ (h : Frame). IsMethod k h.method.0) rest f all) (subst (λ (id : MethodId). IsMethod k id.0) (sym method) one));
+      due = subst (IsDueFormed k) (sym (ap (λ (s : MachineState). s.due) turned.same)) formed.due;
+    }
 
 -- What the machine makes of the frame as it became, is what it makes of the frame as it was.
 pub moves_turned : (k : Known) (old mid new : MachineState) (step : Step) (onward turning : Turning) (rest : List Frame) (f g : Frame) → Turned old mid rest f g

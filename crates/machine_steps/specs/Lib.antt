@@ -7,3 +7,7 @@ pub mod Methods
 pub mod Running
 pub mod Within
 pub mod Going
+pub mod Giving
+pub mod Unwinding
+pub mod Ways
+pub mod Leaving

@@ -19,7 +19,7 @@ use Rattle.machine_values.specs.declared.state.MachineState.{MachineState}
 use Rattle.machine_steps.specs.declared.step.Step.{Step}
 use Rattle.machine_steps.specs.declared.step.Step.TheVariants.{NotMine}
 use Rattle.machine_steps.specs.Programs.{Machine, IsMachine}
-use Rattle.machine_steps.specs.Runs.{Runs, Stepped, answers_left}
+use Rattle.machine_steps.specs.Runs.{Runs, Stepped}
 use Rattle.class_world.specs.Tables.{Known}
 
 pub data Part : Type 0 where

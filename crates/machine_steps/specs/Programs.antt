@@ -1,6 +1,6 @@
 -- What the machine runs: the classes of a world, with the library behind those that were given as files, and what the numbers
 -- of a world stand for.
-use Rattle.std.specs.Prelude.{◌≡◌, ℕ, List, [], map, length, slice_get, Option, Some, None, option_and_then, unwrap_or}
+use Rattle.std.specs.Prelude.{◌≡◌, ℕ, List, [], map, length, slice_get, Option, Some, option_and_then, unwrap_or}
 use Rattle.std.specs.List.{sum}
 use Rattle.std.specs.Option.{option_map}
 use Rattle.aj_names.specs.declared.types.MemberName.{MemberName}

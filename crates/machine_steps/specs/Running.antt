@@ -1,14 +1,13 @@
 -- The running frame of a state, and what stands at the places of its method.
-use Rattle.std.specs.Prelude.{◌≡◌, ℕ, suc, zero, ◌+◌, ◌<◌, Bool, is_some, List, [], ◌∷◌, ◌++◌, map, take, reverse, length, slice_get, slice_set, Option, Some, None, option_and_then, refl}
+use Rattle.std.specs.Prelude.{◌≡◌, ℕ, suc, zero, ◌+◌, Bool, is_some, List, [], ◌∷◌, ◌++◌, map, take, reverse, length, slice_get, slice_set, Option, Some, refl}
 use Rattle.std.specs.List.{AllByRecursion}
 use Rattle.std.specs.Option.{option_map}
 use Rattle.std.proofs.Common.{sym, ◌∙◌, ap, subst, arith}
 use Rattle.std.proofs.lemmas.List.{reverse-append}
-use Rattle.class_file.specs.Pool.{Reference}
 use Rattle.class_world.specs.Tables.{Known}
 use Rattle.class_machine.specs.Turn as turns
 use Rattle.class_machine.specs.Machine.{State}
-use Rattle.class_machine.specs.ClassFiles.{Place, MethodCode, place_in, line_at, method_code, class_code}
+use Rattle.class_machine.specs.ClassFiles.{Place, place_in, method_code, class_code}
 use Rattle.machine_code.specs.declared.method_code.MethodCode as lent
 use Rattle.machine_code.specs.Views.{code_seen}
 use Rattle.machine_values.specs.declared.names.Name.{Name}
@@ -16,9 +15,7 @@ use Rattle.machine_values.specs.declared.frames.Frame.{Frame}
 use Rattle.machine_values.specs.declared.script.Answer.{Answer}
 use Rattle.machine_values.specs.declared.state.MachineState.{MachineState}
 use Rattle.machine_values.specs.States.{machine_frame, IsFrameWithin}
-use Rattle.machine_requests.specs.Shares.{Shares, HasFrames, others_of}
 use Rattle.machine_requests.specs.Replies.{IsLonger}
-use Rattle.machine_requests.specs.Growth.{frames_stay, due_stays}
 use Rattle.machine_steps.specs.declared.step.Step.{Step}
 use Rattle.machine_steps.specs.Programs.{Machine, IsMachine}
 use Rattle.machine_steps.specs.Runs.{Runs, Stepped}

@@ -4,9 +4,12 @@
 #![tactic(auto)]
 
 mod going;
+mod leaving;
 mod running;
 mod step;
+mod unwinding;
 
-pub use going::go_on;
+pub use going::{give, go_on};
+pub use leaving::leave;
 pub use running::{class_name, code_of_method, running_code, stands_at};
 pub use step::Step;

@@ -1,6 +1,6 @@
 use Rattle.std.proofs.Common.{rules, ◌≡◌, refl, sym, ◌∙◌, ap}
 use Rattle.std.specs.Prelude.{Option, is_some, option_and_then}
-use Rattle.class_machine.specs.ClassFiles.{MethodCode, line_at, method_code}
+use Rattle.class_machine.specs.ClassFiles.{MethodCode, line_at}
 use Rattle.machine_code.specs.Views.{code_seen}
 use Rattle.machine_steps.specs.Going.{line_stands}
 use Rattle.machine_steps.proofs.running.stands_at.Goals as goal

@@ -1,0 +1,4 @@
+pub mod Catching
+pub mod Counts
+pub mod Dropping
+pub mod Downward
