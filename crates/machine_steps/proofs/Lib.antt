@@ -2,3 +2,5 @@ pub mod Catching
 pub mod Counts
 pub mod Dropping
 pub mod Downward
+pub mod Caught
+pub mod InLibrary
