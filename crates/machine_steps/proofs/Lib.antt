@@ -4,3 +4,4 @@ pub mod Dropping
 pub mod Downward
 pub mod Caught
 pub mod InLibrary
+pub mod Thrown

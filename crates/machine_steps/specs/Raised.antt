@@ -83,6 +83,11 @@ unwinds_raised k old new step class at of_class unwinds m answers t f below c is
     ap (unwound (class_code m.files) m.setting.classes t.due x t.world) same ∙ sym (locals_decide m t.due f c below x t.world locals)
     ) (unwinds m answers t is (of_class m answers t is runs) runs)
 
+-- whatever state of the machine the state stands for, the message of the exception is that one
+abbrev pub HasMessage : Known → MachineState → Ref → Option (List ℕ) → Type 0
+HasMessage k state at message =
+    (m : Machine) (answers : List Answer) (t : State Place) → IsMachine k m → Runs m state answers t → message_of t.world (name_of m.setting.heads state.heap.names at) ≡ message
+
 pub fails_unwinds : (k : Known) (old new : MachineState) (class failed : ℕ) (at : Ref) (name : List ℕ) → FailsFor k class old.frames.items failed → name ≡ name_at k.heads failed
     → Unwinds k old new (Ended (endings.InitFailed name)) class at
 fails_unwinds k old new class failed at name fails named m answers t is of_class runs =
@@ -92,7 +97,7 @@ fails_unwinds k old new class failed at name fails named m answers t is of_class
     )) (ap events.InitFailed (named ∙ ap (λ heads. name_at heads failed) (sym is.heads)))
 
 pub leaves_unwinds : (k : Known) (old new : MachineState) (class : ℕ) (at : Ref) (name : List ℕ) (message : Option (List ℕ)) → AllByRecursion (Passes k class) old.frames.items → name ≡ name_at k.heads class
-    → ((m : Machine) (answers : List Answer) (t : State Place) → IsMachine k m → Runs m old answers t → message_of t.world (name_of m.setting.heads old.heap.names at) ≡ message)
+    → HasMessage k old at message
     → Unwinds k old new (Ended (endings.Uncaught name message)) class at
 leaves_unwinds k old new class at name message passed named told m answers t is of_class runs =
     let x = name_of m.setting.heads old.heap.names at in

@@ -1,7 +1,8 @@
 //! Exceptions leave frames until one takes them (JVMS 3.10).
 
 ghost use Rattle.std.specs.Prelude.{◌≡◌, ◌<◌, ℕ, true, false, length, is_some, slice_get, IfOk, OnErr};
-ghost use Rattle.class_heads.specs.Hierarchy.{name_at};
+ghost use Rattle.class_heads.specs.Hierarchy.{name_at, place_of};
+ghost use Rattle.class_machine.specs.Values.{class_of};
 ghost use Rattle.class_machine.specs.World.{World as Place, message_of};
 ghost use Rattle.machine_values.specs.declared.script.Answer.{Answer};
 ghost use Rattle.machine_values.specs.Standing.{name_of};
@@ -12,6 +13,7 @@ ghost use Rattle.machine_steps.specs.Programs.{IsRunnable, Machine, IsMachine};
 ghost use Rattle.machine_steps.specs.Runs.{IsFormed};
 ghost use Rattle.machine_steps.specs.Moves.{MovesWithLocals, faults, raises};
 ghost use Rattle.machine_steps.specs.Ends.{ends};
+ghost use Rattle.machine_steps.specs.Raised.{HasMessage};
 ghost use Rattle.machine_steps.specs.Unwinding.{Catches, Unwinds};
 
 use crate::faults::fault_class;
@@ -23,7 +25,9 @@ use crate::unwinding::{Way, way_of};
 use aj_names::{ClassId, InternalName};
 use class_machine::kinds::Fault;
 use class_world::World;
+use machine_fields::class_at;
 use machine_values::{Ending, Heap, MachineState, Ref, Value};
+use sqlite_items::Items;
 use std::alloc::AllocError;
 
 // The frame of that number takes the exception at the place, with no other operand.
@@ -90,6 +94,50 @@ pub fn fail(state: &mut MachineState, world: &World, fault: Fault) -> Result<Ste
         Way::Leaves => {
             let name = name_copy(state, world, class)?;
             Ok(Step::Ended(Ending::Uncaught(name, None)))
+        }
+    }
+}
+
+// The message of the exception, in memory of its own.
+fn message_copy(
+    state: &MachineState,
+    world: &World,
+    x: Ref,
+) -> Result<Option<Items<u16>>, AllocError>
+    requires { x.0 < length state.now.heap.names }
+    ensures { IfOk result (λ text. HasMessage world.now state.now x text) }
+{
+    Err(AllocError)
+}
+
+/// Throws the object, whose class the world has (JVMS 3.10, 6, `athrow`). Where the run ends the state
+/// is as it was.
+///
+/// # Errors
+/// Where there is no memory; the state is as it was then.
+pub fn raise(state: &mut MachineState, world: &World, x: Ref) -> Result<Step, AllocError>
+    requires runnable { IsRunnable world.now }
+    requires formed { IsFormed world.now state.old }
+    requires known { x.0 < length state.old.heap.names }
+    requires class { is_some (place_of world.now.heads (class_of (name_of world.now.heads state.old.heap.names x))) ≡ true }
+    ensures formed { IsFormed world.now state.new }
+    ensures moves { IfOk result (λ step. MovesWithLocals world.now state.old state.new step (raises (λ m. name_of m.setting.heads state.old.heap.names x))) }
+    ensures kept { IfOk result (λ step. ends step ≡ true → state.new ≡ state.old) }
+    ensures err { OnErr result (state.new ≡ state.old) }
+{
+    let Some(class) = class_at(world, &state.heap, x) else {
+        return Ok(Step::Ended(Ending::Broken));
+    };
+    match way_of(state, world, class) {
+        Way::Caught(index, pc) => Ok(catch_in(state, world, index, pc, x)),
+        Way::Fails(failed) => {
+            let name = name_copy(state, world, failed)?;
+            Ok(Step::Ended(Ending::InitFailed(name)))
+        }
+        Way::Leaves => {
+            let name = name_copy(state, world, class)?;
+            let message = message_copy(state, world, x)?;
+            Ok(Step::Ended(Ending::Uncaught(name, message)))
         }
     }
 }
