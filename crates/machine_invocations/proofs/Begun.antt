@@ -114,6 +114,7 @@ module _ (k : Known) (old : MachineState) (frames : MachineState) (fresh : List 
           due_within = runs.frames.due_within;
         };
         answers = runs.answers;
+        filled = runs.filled;
       };
       pushed =
           let mf = machine_frame k.heads methods old.heap.names in

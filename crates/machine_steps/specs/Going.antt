@@ -26,6 +26,7 @@ use Rattle.machine_values.specs.Things.{Things}
 use Rattle.machine_values.specs.Observed.{machine_answer}
 use Rattle.machine_values.specs.States.{machine_due, IsFrameWithin, IsDueWithin}
 use Rattle.machine_requests.specs.Shares.{Shares, others_of}
+use Rattle.machine_requests.specs.Objects.{AreFilled}
 use Rattle.machine_requests.specs.Growth.{frames_stay, due_stays}
 use Rattle.machine_steps.specs.declared.step.Step.{Step}
 use Rattle.machine_steps.specs.declared.step.Step.TheVariants.{Went, Ended}
@@ -48,9 +49,9 @@ module _ (m : Machine) (names more : List Name) where
 
 -- The state stands for the machine's with that frame and the frames that waited.
 pub goes_on_runs : (m : Machine) (old new : MachineState) (answers after : List Answer) (t : State Place) (w : World) (rest : List Frame) (f g : Frame)
-    → Runs m old answers t → old.frames.items ≡ rest ++ f ∷ [] → GoesOn old new rest g → Shares m.setting new.heap (others_of new) w → w.answers ≡ map machine_answer after
+    → Runs m old answers t → old.frames.items ≡ rest ++ f ∷ [] → GoesOn old new rest g → Shares m.setting new.heap (others_of new) w → w.answers ≡ map machine_answer after → AreFilled new.heap m.setting
     → Runs m new after (record { frames = seen_by m new.heap.names g ∷ waiting m old.heap.names rest; world = w; due = t.due })
-goes_on_runs m old new answers after t w rest f g runs top goes shares same =
+goes_on_runs m old new answers after t w rest f g runs top goes shares same filled =
     let names = old.heap.names in
     let more = goes.longer.0 in
     let longer = goes.longer.1 in
@@ -72,6 +73,7 @@ goes_on_runs m old new answers after t w rest f g runs top goes shares same =
         due_within = subst (IsDueWithin (length new.heap.names)) (sym goes.due) (due_more (length names) (length new.heap.names) many old.due runs.frames.due_within);
       };
       answers = same;
+      filled = filled;
     }
 
 -- the same, where nothing else changed
@@ -92,7 +94,7 @@ turned_runs m old new answers t rest f g turned within runs =
       due = ap (λ (s : MachineState). s.due) turned.same;
       within = subst (λ (h : Things). IsFrameWithin (length h.names) g) (sym heap) (within was);
     })
-    (subst P (sym turned.same) runs.shares) runs.answers
+    (subst P (sym turned.same) runs.shares) runs.answers (subst (λ (h : Things). AreFilled h m.setting) (sym heap) runs.filled)
     )
 
 pub formed_turned : (k : Known) (old new : MachineState) (rest : List Frame) (f g : Frame) → Turned old new rest f g → g.method ≡ f.method → IsFormed k old → IsFormed k new

@@ -7,7 +7,12 @@ pub mod Methods
 pub mod Running
 pub mod Within
 pub mod Going
+pub mod Ends
 pub mod Giving
 pub mod Unwinding
 pub mod Ways
 pub mod Leaving
+pub mod Unwound
+pub mod Dropped
+pub mod Tellings
+pub mod Raised

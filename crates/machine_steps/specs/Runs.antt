@@ -17,6 +17,7 @@ use Rattle.machine_values.specs.declared.state.Due.TheVariants.{NativeEntry}
 use Rattle.machine_values.specs.declared.state.MachineState.{MachineState}
 use Rattle.machine_values.specs.Observed.{machine_answer, machine_event, machine_ending}
 use Rattle.machine_requests.specs.Shares.{Shares, HasFrames, others_of}
+use Rattle.machine_requests.specs.Objects.{AreFilled}
 use Rattle.machine_steps.specs.declared.step.Step.{Step}
 use Rattle.machine_steps.specs.declared.step.Step.TheVariants.{Went, Said, Ended}
 use Rattle.machine_steps.specs.Programs.{Machine}
@@ -50,6 +51,7 @@ pub record Runs (m : Machine) (state : MachineState) (left : List Answer) (t : S
   pub shares : Shares m.setting state.heap (others_of state) t.world
   pub frames : HasFrames m.setting.heads m.methods state t
   pub answers : t.world.answers ≡ map machine_answer left
+  pub filled : AreFilled state.heap m.setting
 
 -- ---- steps
 

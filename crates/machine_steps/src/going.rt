@@ -1,10 +1,11 @@
 //! On, within the running frame.
 
-ghost use Rattle.std.specs.Prelude.{◌≡◌, ◌<◌, ℕ, length};
+ghost use Rattle.std.specs.Prelude.{◌≡◌, ◌<◌, ℕ, false, length};
 ghost use Rattle.machine_values.specs.Standing.{held, Settled};
 ghost use Rattle.machine_steps.specs.Programs.{IsRunnable};
 ghost use Rattle.machine_steps.specs.Runs.{IsFormed};
 ghost use Rattle.machine_steps.specs.Moves.{Moves, goes_on, goes_on_with};
+ghost use Rattle.machine_steps.specs.Ends.{ends};
 
 use crate::running::stands_at;
 use crate::step::Step;
@@ -18,6 +19,7 @@ pub fn go_on(state: &mut MachineState, world: &World, pc: u32) -> Step
     requires runnable { IsRunnable world.now }
     requires formed { IsFormed world.now state.old }
     ensures formed { IsFormed world.now state.new }
+    ensures going { ends result ≡ false }
     ensures moves { Moves world.now state.old state.new result (goes_on pc) }
 {
     if !stands_at(state, world, pc) {
@@ -35,6 +37,7 @@ pub fn give(state: &mut MachineState, world: &World, value: Value, pc: u32) -> S
     requires formed { IsFormed world.now state.old }
     requires settled { Settled (length state.old.heap.names) value }
     ensures formed { IsFormed world.now state.new }
+    ensures going { ends result ≡ false }
     ensures moves { Moves world.now state.old state.new result (goes_on_with (λ m t. held m.setting.heads state.old.heap.names value) pc) }
 {
     if !stands_at(state, world, pc) {
