@@ -1,3 +1,4 @@
 pub mod Settings
 pub mod Positions
 pub mod Types
+pub mod NewObjects

@@ -6,9 +6,11 @@
 //! ask for, at the setting of the world (`specs/Settings.antt`).
 #![tactic(auto)]
 
+mod new_objects;
 mod objects;
 mod positions;
 mod types;
 
+pub use new_objects::make_object;
 pub use objects::{class_at, is_object_below, may_hold};
 pub use positions::{cause_position, field_position, message_position, value_position};

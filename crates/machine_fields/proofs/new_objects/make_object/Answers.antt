@@ -1,0 +1,13 @@
+use Rattle.std.proofs.Common.{List, ◌∙◌, ap, subst, sym}
+use Rattle.std.proofs.lemmas.Result.{IfOk-weaker}
+use Rattle.aj_names.specs.declared.types.FieldType.{FieldType}
+use Rattle.class_machine.specs.World.{is_text_class}
+use Rattle.machine_requests.specs.Objects.{Makes}
+use Rattle.machine_fields.proofs.NewOnes.{makes_of}
+use Rattle.machine_fields.proofs.new_objects.make_object.Goals as goal
+
+pub returns-clause-made : goal.returns-clause-made
+returns-clause-made c = IfOk-weaker c.make.result _ _ (λ at makes.
+    makes_of c.args.world.now c.args.class.0 c.has_text.result c.in_ok-types.types.items c.args.heap.now c.make.new.heap at c.requires
+    (c.has_text.ensures ∙ ap is_text_class c.name_of.ensures) c.in_ok-types.ensures
+    (λ others. subst (λ (types : List FieldType). Makes c.args.class.0 c.has_text.result types c.args.heap.now others c.make.new.heap at) c.as_slice.ensures.value (makes others))) c.make.ensures.ok
