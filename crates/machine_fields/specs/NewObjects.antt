@@ -1,5 +1,5 @@
 -- What the fields of new objects hold.
-use Rattle.std.specs.Prelude.{◌≡◌, ℕ, Bool, true, not, if◌then◌else◌, nat_lt, List, [], ◌∷◌, map, length}
+use Rattle.std.specs.Prelude.{◌≡◌, ℕ, Bool, true, false, not, if◌then◌else◌, nat_lt, List, [], ◌∷◌, map, length}
 use Rattle.aj_names.specs.declared.types.FieldType.{FieldType}
 use Rattle.class_file.specs.Pool.{Reference}
 use Rattle.class_heads.specs.declared.types.FieldHead.{FieldHead}
@@ -9,11 +9,11 @@ use Rattle.class_machine.specs.declared.kinds.Element.{Element}
 use Rattle.class_machine.specs.Descriptors.{element_of}
 use Rattle.class_machine.specs.Declarations.{is_static_field, classes_of}
 use Rattle.class_machine.specs.ClassFiles.{field_constant}
-use Rattle.class_machine.specs.World.{World}
+use Rattle.class_machine.specs.World.{World, is_text_class}
 use Rattle.machine_values.specs.declared.values.Ref.{Ref}
 use Rattle.machine_values.specs.Things.{Things}
 use Rattle.machine_requests.specs.Arrays.{type_element}
-use Rattle.machine_requests.specs.Objects.{IsNew}
+use Rattle.machine_requests.specs.Objects.{AreFilled, IsNew}
 use Rattle.machine_requests.specs.Shares.{Setting, Others, Shares}
 use Rattle.machine_requests.specs.Telling.{AreDistinct}
 
@@ -39,3 +39,8 @@ pub record IsSettingOf (k : Known) (s : Setting) : Type 0 where
 abbrev pub MakesOf : Known → ℕ → Things → Things → Ref → Type 0
 MakesOf k class before after at =
     (s : Setting) (others : Others) (w : World) → IsSettingOf k s → Shares s before others w → IsNew s (name_at k.heads class) w after others at
+
+-- where the class's objects have no texts, each object has a value for each field of its class still
+abbrev pub KeepsFilled : Known → ℕ → Things → Things → Type 0
+KeepsFilled k class before after =
+    (s : Setting) (others : Others) (w : World) → IsSettingOf k s → is_text_class (name_at k.heads class) ≡ false → Shares s before others w → AreFilled before s → AreFilled after s

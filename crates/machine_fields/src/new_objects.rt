@@ -9,7 +9,7 @@ ghost use Rattle.class_machine.specs.World.{is_text_class};
 ghost use Rattle.machine_requests.specs.Arrays.{type_element};
 ghost use Rattle.machine_requests.specs.Replies.{IsLonger};
 ghost use Rattle.machine_fields.specs.Positions.{in_head, in_place};
-ghost use Rattle.machine_fields.specs.NewObjects.{held_by, asked_by, own_elements, MakesOf};
+ghost use Rattle.machine_fields.specs.NewObjects.{held_by, asked_by, own_elements, MakesOf, KeepsFilled};
 
 use crate::objects::name_of;
 use crate::positions::{boxed_in, is_static, is_throwable, spelling, superclass_of};
@@ -163,6 +163,8 @@ pub fn make_object(
 ) -> Result<Ref, AllocError>
     requires { class.0 < length world.now.heads }
     ensures made { IfOk result (λ at. MakesOf world.now class.0 heap.old heap.new at) }
+    ensures within { IfOk result (λ at. at.0 < length heap.new.names) }
+    ensures filled { OnOk result (KeepsFilled world.now class.0 heap.old heap.new) }
     ensures names { IsLonger heap.old heap.new }
     ensures err { OnErr result (heap.new ≡ heap.old) }
 {

@@ -5,3 +5,4 @@ pub mod Downward
 pub mod Caught
 pub mod InLibrary
 pub mod Thrown
+pub mod Settings

@@ -165,13 +165,13 @@ grown_runs m old mid answers t w same longer shares kept filled runs =
 module _ (k : Known) (old new : MachineState) (fault : Fault) (class : ℕ) (named : name_at k.heads class ≡ fault_class fault) where
   pub made_caught : (mid : MachineState) (step : Step) (at : Ref) → mid ≡ record old { heap = mid.heap } → IsLonger old.heap mid.heap
       → ((m : Machine) (w : World) → IsMachine k m → Shares m.setting old.heap (others_of old) w → IsNew m.setting (name_at k.heads class) w mid.heap (others_of old) at)
-      → ((m : Machine) → IsMachine k m → AreFilled old.heap m.setting → AreFilled mid.heap m.setting) → Unwinds k mid new step class at → MovesWithLocals k old new step (faults fault)
+      → ((m : Machine) (w : World) → IsMachine k m → Shares m.setting old.heap (others_of old) w → AreFilled old.heap m.setting → AreFilled mid.heap m.setting) → Unwinds k mid new step class at → MovesWithLocals k old new step (faults fault)
   made_caught mid step at same longer made filled unwinds m answers t f below c is runs frames locals =
       let one : IsNew m.setting (name_at k.heads class) t.world mid.heap (others_of old) at = made m t.world is runs.shares in
       let n : List ℕ → machine.Name × World = λ name. make m.setting.classes t.world name in
       let name : name_of m.setting.heads mid.heap.names at ≡ (n (fault_class fault)).0 = one.name ∙ ap (λ x. (n x).0) named in
       let w = (n (name_at k.heads class)).1 in
-      let grown = grown_runs m old mid answers t w same longer one.shares refl (filled m is runs.filled) runs in
+      let grown = grown_runs m old mid answers t w same longer one.shares refl (filled m t.world is runs.shares runs.filled) runs in
       let of_class : class_of (name_of m.setting.heads mid.heap.names at) ≡ name_at k.heads class = ap class_of name ∙ sym named in
       let thrown : machine.Name → World → List (turns.Frame Place) → machines.Step (State Place) = λ x v fs. unwound (class_code m.files) m.setting.classes t.due x v fs in
       subst (Stepped m new answers step) (

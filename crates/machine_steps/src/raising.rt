@@ -6,9 +6,6 @@ ghost use Rattle.class_machine.specs.Values.{class_of};
 ghost use Rattle.class_machine.specs.World.{World as Place, message_of};
 ghost use Rattle.machine_values.specs.declared.script.Answer.{Answer};
 ghost use Rattle.machine_values.specs.Standing.{name_of};
-ghost use Rattle.machine_requests.specs.Shares.{Others, Shares};
-ghost use Rattle.machine_requests.specs.Objects.{AreFilled, IsNew};
-ghost use Rattle.machine_requests.specs.Replies.{IsLonger};
 ghost use Rattle.machine_steps.specs.Programs.{IsRunnable, Machine, IsMachine};
 ghost use Rattle.machine_steps.specs.Runs.{IsFormed};
 ghost use Rattle.machine_steps.specs.Moves.{MovesWithLocals, faults, raises};
@@ -25,8 +22,8 @@ use crate::unwinding::{Way, way_of};
 use aj_names::{ClassId, InternalName};
 use class_machine::kinds::Fault;
 use class_world::World;
-use machine_fields::class_at;
-use machine_values::{Ending, Heap, MachineState, Ref, Value};
+use machine_fields::{class_at, make_object};
+use machine_values::{Ending, MachineState, Ref, Value};
 use sqlite_items::Items;
 use std::alloc::AllocError;
 
@@ -56,18 +53,6 @@ fn name_copy(
     InternalName::from_slice(*state.frames.allocator(), class_name(world, class))
 }
 
-// A new object of the class.
-fn make_object(heap: &mut Heap, world: &World, class: ClassId) -> Result<Ref, AllocError>
-    requires { class.0 < length world.now.heads }
-    ensures made { IfOk result (λ at. (m : Machine) (others : Others) (w : Place) → IsMachine world.now m → Shares m.setting heap.old others w → IsNew m.setting (name_at world.now.heads class.0) w heap.new others at) }
-    ensures within { IfOk result (λ at. at.0 < length heap.new.names) }
-    ensures filled { (m : Machine) → IsMachine world.now m → AreFilled heap.old m.setting → AreFilled heap.new m.setting }
-    ensures longer { IsLonger heap.old heap.new }
-    ensures err { OnErr result (heap.new ≡ heap.old) }
-{
-    Err(AllocError)
-}
-
 /// The machine makes an exception and throws it (JVMS 2.16.4, 3.10). An ending's texts are prepared
 /// before a frame is left: where the run ends the state is as it was.
 ///
@@ -84,7 +69,8 @@ pub fn fail(state: &mut MachineState, world: &World, fault: Fault) -> Result<Ste
     let class = fault_class(world, fault);
     match way_of(state, world, class) {
         Way::Caught(index, pc) => {
-            let x = make_object(&mut state.heap, world, class)?;
+            let alloc = *state.frames.allocator();
+            let x = make_object(alloc, &mut state.heap, world, class)?;
             Ok(catch_in(state, world, index, pc, x))
         }
         Way::Fails(failed) => {
