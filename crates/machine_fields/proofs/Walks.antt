@@ -52,7 +52,7 @@ twice_added m n None = refl
 twice_added m n (Some i) = ap Some (let e : m + (n + i) ≡ m + n + i = omega arith in e)
 
 module _ (heads : List ClassHead) (all : List Reference) (r : Reference) (before left place : ℕ) (head : ClassHead) (here : slice_get heads place ≡ Some head) where
-  stands : (next : Option ℕ) → option_to_list next ≡ superclass_at heads place → rest_of heads (suc left) (Some place) ≡ in_head head ++ rest_of heads left next
+  pub stands : (next : Option ℕ) → option_to_list next ≡ superclass_at heads place → rest_of heads (suc left) (Some place) ≡ in_head head ++ rest_of heads left next
   stands next e =
       ap (flat_map (in_place heads)) (walk_step (superclass_at heads) left place next e)
       ∙ ap (λ (o : Option ClassHead). in_some o ++ flat_map (in_place heads) (walk_from (superclass_at heads) left next)) here

@@ -3,3 +3,4 @@ pub mod Positions
 pub mod Types
 pub mod FieldLaws
 pub mod ProgramLaws
+pub mod NewObjects

@@ -18,7 +18,7 @@ use aj_names::{ClassId, FieldType};
 use class_world::World;
 use machine_values::{Content, Heap, Maker, Name, Ref, Value};
 
-fn name_of(world: &World, class: ClassId) -> &[u8]
+pub(crate) fn name_of(world: &World, class: ClassId) -> &[u8]
     ensures { result.now ≡ name_at world.now.heads class.0 }
 {
     if class.0 < world.classes() {

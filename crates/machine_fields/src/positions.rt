@@ -22,7 +22,7 @@ use boot_library::Primitive;
 use class_heads::{ClassHead, FieldHead};
 use class_world::World;
 
-fn is_static(field: &FieldHead) -> bool
+pub(crate) fn is_static(field: &FieldHead) -> bool
     ensures { result ≡ is_static_field field.now }
 {
     field.flags.0 & 0x0008 == 0x0008
@@ -53,7 +53,7 @@ fn own_place(fields: &[FieldHead], name: &[u8], descriptor: &[u8]) -> Option<usi
 }
 
 // The primitive type whose boxes are of the class.
-fn boxed_in(class: &[u8]) -> Option<Primitive>
+pub(crate) fn boxed_in(class: &[u8]) -> Option<Primitive>
     ensures { result ≡ boxed_in class.now }
 {
     if b"java/lang/Boolean".as_slice() == class {
@@ -83,7 +83,7 @@ fn boxed_in(class: &[u8]) -> Option<Primitive>
     None
 }
 
-fn is_throwable(class: &[u8]) -> bool
+pub(crate) fn is_throwable(class: &[u8]) -> bool
     ensures { result ≡ bytes_eq class.now throwable_class }
 {
     class == b"java/lang/Throwable".as_slice()
@@ -104,7 +104,7 @@ fn hidden_count(class: &[u8]) -> usize
 }
 
 // The descriptor of a primitive type.
-fn spelling(boxed: Primitive) -> &'static [u8]
+pub(crate) fn spelling(boxed: Primitive) -> &'static [u8]
     ensures { result.now ≡ (value_field boxed).member.descriptor }
 {
     match boxed {
@@ -178,7 +178,7 @@ fn place_in(head: &ClassHead, declaring: &[u8], name: &[u8], descriptor: &[u8]) 
     }
 }
 
-fn superclass_of(world: &World, head: &ClassHead) -> Option<ClassId>
+pub(crate) fn superclass_of(world: &World, head: &ClassHead) -> Option<ClassId>
     ensures places { option_to_list (option_map (λ class. class.0) result) ≡ filter_map (place_of world.now.heads) (superclass_name (Some head.now)) }
     ensures within { IfSome result (λ class. class.0 < length world.now.heads) }
 {

@@ -1,5 +1,5 @@
 -- Objects, their classes and their fields.
-use Rattle.std.specs.Prelude.{◌≡◌, ℕ, suc, ◌<◌, Bool, true, if◌then◌else◌, nat_lt, List, [], ◌∷◌, map, length, slice_get, Option, Some, None}
+use Rattle.std.specs.Prelude.{◌≡◌, ℕ, suc, ◌<◌, Bool, true, false, if◌then◌else◌, nat_lt, List, [], ◌∷◌, map, length, slice_get, Option, Some, None}
 use Rattle.std.specs.Option.{option_map}
 use Rattle.aj_names.specs.declared.types.FieldType.{FieldType}
 use Rattle.class_file.specs.Pool.{Reference}
@@ -18,7 +18,8 @@ use Rattle.machine_values.specs.declared.names.Maker.TheVariants.{Class}
 use Rattle.machine_values.specs.declared.names.Name.{Name}
 use Rattle.machine_values.specs.declared.names.Name.TheVariants.{Made}
 use Rattle.machine_values.specs.declared.content.Content.{Content}
-use Rattle.machine_values.specs.declared.content.Content.TheVariants.{Values}
+use Rattle.machine_values.specs.declared.content.Content.TheVariants.{Values, Text}
+use Rattle.machine_values.specs.First.{first_value}
 use Rattle.machine_values.specs.Standing.{name_in, name_of}
 use Rattle.machine_values.specs.Things.{Things}
 use Rattle.machine_requests.specs.declared.reply.Reply.{Reply}
@@ -44,6 +45,11 @@ pub record IsNew (s : Setting) (class : List ℕ) (w : World) (things : Things) 
   pub name : name_of s.heads things.names at ≡ (worlds.make s.classes w class).0
   pub within : nat_lt at.0 (length things.names) ≡ true
   pub shares : Shares s things others (worlds.make s.classes w class).1
+
+-- what a new object holds
+abbrev pub new_content : Bool → List FieldType → Content
+new_content true types = Text []
+new_content false types = Values (map first_value types)
 
 abbrev pub Makes : ℕ → Bool → List FieldType → Things → Others → Things → Ref → Type 0
 Makes number text types before others after at =

@@ -4,7 +4,9 @@ ghost use Rattle.std.specs.Prelude.{◌≡◌, ◌≤ℤ◌, pos, ◌++◌, [], 
 ghost use Rattle.class_machine.specs.Effect.{LoadClass, MakeArray};
 ghost use Rattle.machine_values.specs.Types.{type_name};
 ghost use Rattle.machine_requests.specs.Telling.{is_array_type, is_class_type};
-ghost use Rattle.machine_requests.specs.Objects.{Makes};
+ghost use Rattle.machine_requests.specs.Objects.{Makes, new_content};
+ghost use Rattle.machine_values.specs.declared.names.Maker.TheVariants.{Class};
+ghost use Rattle.machine_values.specs.Things.{with_made};
 ghost use Rattle.machine_requests.specs.Shares.{Others};
 ghost use Rattle.machine_requests.specs.Replies.{IsAnswer, IsLonger};
 
@@ -59,6 +61,7 @@ pub fn make(
     text: bool,
     fields: &[FieldType],
 ) -> Result<Ref, AllocError>
+    ensures added { IfOk result (λ at. (at.0, heap.new) ≡ with_made heap.old (Class class) (new_content text fields.now)) }
     ensures ok { IfOk result (λ at. (others : Others) → Makes class.0 text fields.now heap.old others heap.new at) }
     ensures names { IsLonger heap.old heap.new }
     ensures err { OnErr result (heap.new ≡ heap.old) }

@@ -187,6 +187,17 @@ impl Heap {
         forget(&mut self.counts, &mut self.places, name, self.names.len());
     }
 
+    /// Gives an object a text. A call that fails leaves the heap as it was.
+    pub fn set_text(&mut self, at: Ref, units: &[u16]) -> Result<(), AllocError>
+        requires { at.0 < length self.old.names }
+        ensures ok { OnOk result (self.new ≡ changed self.old at.0 (Text units.now)) }
+        ensures err { OnErr result (self.new ≡ self.old) }
+    {
+        let text = Units::from_slice(*self.names.allocator(), units)?;
+        self.contents[at.0 as usize] = Content::Text(text);
+        Ok(())
+    }
+
     /// Forgets the objects from that place on. What refers to none of them stands as before.
     pub fn truncate(&mut self, count: usize)
         ensures names { self.new.names ≡ take count self.old.names }

@@ -1,0 +1,5 @@
+pub mod Methods
+pub mod Selections
+pub mod Standards
+pub mod Initialising
+pub mod Keeping
