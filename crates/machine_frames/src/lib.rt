@@ -21,8 +21,6 @@ mod peeks;
 mod sizes;
 mod stack;
 mod storage;
-#[cfg(test)]
-mod tests;
 mod tokens;
 
 pub use calls::{Call, Receiver, call_on, call_static};

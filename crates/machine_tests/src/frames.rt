@@ -1,7 +1,9 @@
-use super::*;
+//! Instructions on frames.
+
 use aj_names::MethodId;
 use class_machine::kinds::{Constant, Division, Kind, Shift, Slots};
 use class_machine::meaning::Basic;
+use machine_frames::{Effect, perform};
 use machine_values::{Frame, Locals, Operands, Purpose, Value};
 use std::alloc::AllocError;
 
