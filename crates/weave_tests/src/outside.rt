@@ -1,4 +1,8 @@
-use crate::{FolderShelf, MemShelf, MemSink, Name, Shelf, ShelfFault, Sink, SinkFault, StdSink};
+//! Shelves of files and sinks of printed bytes.
+
+use aj_outside::{
+    FolderShelf, MemShelf, MemSink, Name, Shelf, ShelfFault, Sink, SinkFault, StdSink,
+};
 use std::alloc::Global;
 use std::process::Abort;
 use std::test::Fail;
