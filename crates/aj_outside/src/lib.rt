@@ -22,6 +22,3 @@ pub use names::Name;
 pub use shelves::{Shelf, ShelfFault};
 pub use sinks::{Sink, SinkFault};
 pub use std_sinks::StdSink;
-
-#[cfg(test)]
-mod tests;

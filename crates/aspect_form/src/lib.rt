@@ -8,6 +8,3 @@ mod tokens;
 
 pub use fault::AspectFault;
 pub use form::read_aspect;
-
-#[cfg(test)]
-mod tests;

@@ -26,10 +26,3 @@ pub use layout_fault::LayoutFault;
 pub use method_code::{CodeEntry, Jump, Line, LineTable, MethodCode, Variable, VariableTable};
 pub use ready::is_layable;
 pub use taking::take_apart;
-
-#[cfg(test)]
-mod again_tests;
-#[cfg(test)]
-mod layout_tests;
-#[cfg(test)]
-mod tests;

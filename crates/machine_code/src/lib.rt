@@ -17,8 +17,6 @@ mod operation;
 mod operations;
 mod switches;
 mod targets;
-#[cfg(test)]
-mod tests;
 
 pub use code::code_of;
 pub use descriptors::{kind_in, parameter_count, parameter_kind, result_type};

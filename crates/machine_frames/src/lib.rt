@@ -21,8 +21,6 @@ mod peeks;
 mod sizes;
 mod stack;
 mod storage;
-#[cfg(test)]
-mod tests;
 mod tokens;
 mod undoing;
 
