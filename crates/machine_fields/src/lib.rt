@@ -6,11 +6,16 @@
 //! ask for, at the setting of the world (`specs/Settings.antt`).
 #![tactic(auto)]
 
+mod laws;
 mod new_objects;
 mod objects;
 mod positions;
 mod types;
 
+pub use laws::{
+    fields_apart, first_field_named, first_field_numbered, found_is_field, found_is_first,
+    program_is_distinct,
+};
 pub use new_objects::make_object;
 pub use objects::{class_at, is_object_below, may_hold};
 pub use positions::{cause_position, field_position, message_position, value_position};

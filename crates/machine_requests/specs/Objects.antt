@@ -3,9 +3,9 @@ use Rattle.std.specs.Prelude.{◌≡◌, ℕ, suc, ◌<◌, Bool, true, false, i
 use Rattle.std.specs.Option.{option_map}
 use Rattle.aj_names.specs.declared.types.FieldType.{FieldType}
 use Rattle.class_file.specs.Pool.{Reference}
-use Rattle.class_heads.specs.Hierarchy.{name_at}
+use Rattle.class_heads.specs.Hierarchy.{name_at, is_array}
 use Rattle.class_machine.specs.declared.kinds.Element.{Element}
-use Rattle.class_machine.specs.Values.{class_of}
+use Rattle.class_machine.specs.Values.{class_of, class_class}
 use Rattle.class_machine.specs.Descriptors.{element_of}
 use Rattle.class_machine.specs.Classes.{same_member}
 use Rattle.class_machine.specs.Answers.{declared}
@@ -87,3 +87,13 @@ pub record HoldsSuch (r : Reference) (e : Element) (s : Setting) : Type 0 where
 -- each object has a value for each field of its class
 pub record AreFilled (things : Things) (s : Setting) : Type 0 where
   pub each : (at : ℕ) → at < length things.names → length (fields_at things at) ≡ length (s.classes.fields (class_of (name_in s.heads (slice_get things.names at))))
+
+-- texts, arrays and what stands for a class have no fields
+pub record BareTypes (s : Setting) : Type 0 where
+  pub texts : (class : List ℕ) → is_text_class class ≡ true → s.classes.fields class ≡ []
+  pub arrays : (class : List ℕ) → is_array class ≡ true → s.classes.fields class ≡ []
+  pub classes : s.classes.fields class_class ≡ []
+
+-- where each object had them before, each has them then
+abbrev pub StaysFilled : Things → Things → Setting → Type 0
+StaysFilled before after s = BareTypes s → length before.contents ≡ length before.names → AreFilled before s → AreFilled after s

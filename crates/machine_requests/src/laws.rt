@@ -2,6 +2,8 @@
 
 ghost use Rattle.std.specs.Prelude.{◌≡◌, ◌<◌, ◌==◌, ℕ, true, List, [], ◌++◌, map, length, slice_get, Some};
 ghost use Rattle.std.specs.List.{AllByRecursion};
+ghost use Rattle.aj_names.specs.declared.ids.ClassId.{ClassId as ClassIdOf};
+ghost use Rattle.aj_names.specs.declared.types.FieldType.{FieldType};
 ghost use Rattle.class_file.specs.Pool.{Reference};
 ghost use Rattle.class_file.specs.Text.{is_class_name};
 ghost use Rattle.class_heads.specs.declared.types.ClassHead.{ClassHead};
@@ -13,7 +15,9 @@ ghost use Rattle.machine_values.specs.declared.content.Content.{Content};
 ghost use Rattle.machine_values.specs.declared.frames.Frame.{Frame};
 ghost use Rattle.machine_values.specs.declared.names.Maker.{Maker};
 ghost use Rattle.machine_values.specs.declared.names.Name.{Name};
-ghost use Rattle.machine_values.specs.declared.names.Name.TheVariants.{Made};
+ghost use Rattle.machine_values.specs.declared.content.Content.TheVariants.{Text};
+ghost use Rattle.machine_values.specs.declared.names.Maker.TheVariants.{Class};
+ghost use Rattle.machine_values.specs.declared.names.Name.TheVariants.{Literal, Made};
 ghost use Rattle.machine_values.specs.declared.state.Due.{Due};
 ghost use Rattle.machine_values.specs.declared.state.MachineState.{MachineState};
 ghost use Rattle.machine_values.specs.declared.values.Value.{Value};
@@ -21,6 +25,7 @@ ghost use Rattle.machine_values.specs.NumberLaws.{IsTold};
 ghost use Rattle.machine_values.specs.Standing.{AreNumbered, IsSettledContent, held, machine_name, maker_name, name_in, object_of};
 ghost use Rattle.machine_values.specs.States.{is_known, machine_frame, machine_due, IsFrameWithin, IsDueWithin, Represents};
 ghost use Rattle.machine_values.specs.Things.{Things, changed, is_constant, with_constant, with_made};
+ghost use Rattle.machine_requests.specs.Objects.{IsClass, StaysFilled};
 ghost use Rattle.machine_requests.specs.Shares.{HasFrames, Others, Setting, Shares, others_of};
 ghost use Rattle.machine_requests.specs.Telling.{AreDistinct, AreFit, is_fit, is_fit_maker, is_plain};
 
@@ -83,4 +88,14 @@ pub fn store_shares()
     ensures { (s : Setting) (things : Things) (others : Others) (w : worlds.World) (at : ℕ) (maker : Maker) (k : ℕ) (c : Content) → AreDistinct s.heads → Shares s things others w
         → slice_get things.names at ≡ Some (Made maker k) → IsSettledContent (length things.names) c
         → Shares s (changed things at c) others (record w { heap = worlds.with_changed w.heap (machine_name s.heads (Made maker k)) (object_of s.heads s.classes.fields things.names maker c) }) }
+{}
+
+/// Objects have their fields still when the String of a literal is added.
+pub fn literal_filled()
+    ensures { (things : Things) (units : List ℕ) (s : Setting) → StaysFilled things (with_constant things (Literal units)).1 s }
+{}
+
+/// Or a text.
+pub fn text_filled()
+    ensures { (things : Things) (class : ClassIdOf) (types : List FieldType) (units : List ℕ) (s : Setting) → IsClass class.0 true types s → StaysFilled things (with_made things (Class class) (Text units)).1 s }
 {}
