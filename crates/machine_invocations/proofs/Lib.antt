@@ -6,3 +6,6 @@ pub mod Names
 pub mod Initialised
 pub mod Marking
 pub mod Begun
+pub mod Filled
+pub mod Locked
+pub mod Entered

@@ -3,3 +3,4 @@ pub mod Selections
 pub mod Standards
 pub mod Initialising
 pub mod Keeping
+pub mod Entering

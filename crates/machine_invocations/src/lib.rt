@@ -4,11 +4,14 @@
 //! goes on standing for one of the class machine's definition.
 #![tactic(auto)]
 
+mod entering;
 mod initialisers;
 mod methods;
 mod search;
 mod selection;
+mod texts;
 
+pub use entering::enter;
 pub use initialisers::begin;
 pub use methods::{
     Declaration, declared, declaring_class, is_constructor, is_native, is_private, is_static,
@@ -16,3 +19,4 @@ pub use methods::{
 };
 pub use search::{class_of_members, class_of_object, find_method};
 pub use selection::{find_selected, select, select_special, superclass_of};
+pub use texts::member_text;
