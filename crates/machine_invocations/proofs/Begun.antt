@@ -39,6 +39,7 @@ keeps_same k old new same items =
       begun = refl;
       names = ([], sym (append-nil old.heap.names));
       shares = λ m w is shares. shares;
+      filled = λ m w is shares filled. filled;
     }) items
 
 pub on_err : {T E P : Type 0} (r : Result T E) → P → OnErr r P

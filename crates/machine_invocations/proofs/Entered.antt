@@ -31,6 +31,7 @@ use Rattle.machine_values.specs.Stacks.{Stack, weight}
 use Rattle.machine_values.specs.Standing.{name_of, held, Settled}
 use Rattle.machine_values.specs.States.{machine_frame, machine_purpose, machine_due, local_in, is_known_purpose, is_known_object, IsFrameWithin, IsDueWithin}
 use Rattle.machine_requests.specs.Growth.{frame_stays, due_stays}
+use Rattle.machine_requests.specs.Objects.{AreFilled}
 use Rattle.machine_requests.specs.Replies.{IsLonger}
 use Rattle.machine_requests.specs.Shares.{Shares, others_of}
 use Rattle.machine_steps.specs.declared.step.Step.TheVariants.{Went, Ended}
@@ -49,9 +50,9 @@ use Rattle.machine_invocations.proofs.Initialised.{called_so}
 -- ---- one more frame
 
 pub pushed_runs : (m : Machine) (old new : MachineState) (left : List Answer) (t : State Place) (w : World) (g : Frame) → Runs m old left t → new.frames.items ≡ old.frames.items ++ g ∷ [] → IsLonger old.heap new.heap
-    → new.due ≡ old.due → IsFrameWithin (length new.heap.names) g → Shares m.setting new.heap (others_of new) w → w.answers ≡ t.world.answers
+    → new.due ≡ old.due → IsFrameWithin (length new.heap.names) g → Shares m.setting new.heap (others_of new) w → w.answers ≡ t.world.answers → AreFilled new.heap m.setting
     → Runs m new left (record { frames = seen_by m new.heap.names g ∷ t.frames; world = w; due = t.due })
-pushed_runs m old new left t w g runs items longer due within shares same =
+pushed_runs m old new left t w g runs items longer due within shares same filled =
     let names = old.heap.names in
     let more = longer.0 in
     let many : length names ≤ length new.heap.names = let e = ap length longer.1 in let n = length-append names more in omega arith in
@@ -71,6 +72,7 @@ pushed_runs m old new left t w g runs items longer due within shares same =
         due_within = subst (IsDueWithin (length new.heap.names)) (sym due) (due_more (length names) (length new.heap.names) many old.due runs.frames.due_within);
       };
       answers = same ∙ runs.answers;
+      filled = filled;
     }
 
 answers_stay : (lock : Option machine.Name) (w : World) → (entering lock w).answers ≡ w.answers
@@ -170,7 +172,7 @@ module _ (k : Known) (old : MachineState) (method : MethodId) (callee : Method) 
               let within : IsFrameWithin (length new.heap.names) g = record { operands = before.operands; locals = before.locals; monitor = pushes.locks.known; purpose = before.purpose } in
               let shares = subst (λ (s : MachineState). Shares x.setting new.heap (others_of s) (entering lock t.world)) (sym pushes.rest) inside.shares in
               let due = ap (λ (s : MachineState). s.due) pushes.rest in
-              let done = pushed_runs x old new left t (entering lock t.world) g here pushes.frames pushes.names due within shares (answers_stay lock t.world) in
+              let done = pushed_runs x old new left t (entering lock t.world) g here pushes.frames pushes.names due within shares (answers_stay lock t.world) (inside.filled here.filled) in
               let named = ap (λ (all : List Name). option_map (name_of k.heads all) pushes.monitor) (sym longer) ∙ inside.named in
               let same = ap (λ (all : List Name). machine_frame k.heads methods all g) longer ∙ frame_is k method entry given purpose callee sees fields methods there names more receiver pushes.monitor settled known named in
               subst (λ (fs : List (turns.Frame Place)). Runs x new left (record { frames = fs; world = entering lock t.world; due = t.due }))

@@ -7,5 +7,8 @@ pub mod Initialised
 pub mod Marking
 pub mod Begun
 pub mod Filled
+pub mod Fieldless
 pub mod Locked
 pub mod Entered
+pub mod Shown
+pub mod Left

@@ -9,7 +9,7 @@ use Rattle.class_heads.specs.declared.types.MethodHead.{MethodHead}
 use Rattle.class_heads.specs.Hierarchy.{name_at}
 use Rattle.class_world.specs.Tables.{Known}
 use Rattle.class_machine.specs.Answers as answers
-use Rattle.class_machine.specs.Classes.{Method}
+use Rattle.class_machine.specs.Classes.{Method, Classes}
 use Rattle.class_machine.specs.ClassFiles.{field_constant}
 use Rattle.class_machine.specs.Turn.{lock_of, entering}
 use Rattle.class_machine.specs.Values as machine
@@ -22,14 +22,16 @@ use Rattle.machine_values.specs.Things.{Things, Placed, with_constant}
 use Rattle.machine_requests.specs.declared.reply.Reply.{Reply}
 use Rattle.machine_requests.specs.declared.reply.Reply.TheVariants.{Gives, Done, Faults, Refuses}
 use Rattle.machine_requests.specs.Monitors.{with_monitors}
+use Rattle.machine_requests.specs.Objects.{AreFilled}
 use Rattle.machine_requests.specs.Replies.{Replies}
 use Rattle.machine_requests.specs.Shares.{Setting, Others, Shares}
 use Rattle.machine_requests.specs.Telling.{is_plain, is_class_type, AreDistinct}
 use Rattle.machine_requests.proofs.NewArrays.{class_given}
-use Rattle.machine_steps.specs.Programs.{Machine, IsMachine}
+use Rattle.machine_steps.specs.Programs.{IsRunnable, Machine, IsMachine}
 use Rattle.machine_steps.specs.Runs.{IsMethod}
 use Rattle.machine_invocations.specs.Methods.{declared_as, Sees, StandsIn}
 use Rattle.machine_invocations.specs.Entering.{LockedIn, Locks, HasLock, FindsLock}
+use Rattle.machine_invocations.proofs.Fieldless.{class_fields, with_class_object}
 use Rattle.machine_invocations.proofs.Seen.{class_named}
 
 lock_receiver : (callee : Method) (a : machine.Name) → callee.is_synchronized ≡ true → lock_of callee (Some a) ≡ Some a
@@ -61,6 +63,7 @@ module _ (k : Known) where
   pub finds_receiver : (heap : Things) (callee : Method) (receiver : Option Ref) (at : Ref) → receiver ≡ Some at → FindsLock k heap heap callee receiver at
   finds_receiver heap callee receiver at e m others w is shares = record {
     shares = shares;
+    filled = λ filled. filled;
     named = λ sync. ap (λ (o : Option Ref). lock_of callee (option_map (name_of m.setting.heads heap.names) o)) e ∙ lock_receiver callee (name_of m.setting.heads heap.names at) sync;
   }
 
@@ -71,13 +74,16 @@ module _ (k : Known) where
   plain_head number place class method m stands seen within distinct =
       subst (λ (name : List ℕ). is_plain name ≡ true) (class_named k number place class method m stands seen ∙ ap (λ (x : Method). x.name.class) seen) (distinct.plain place within)
 
-  pub finds_class : (heap heap' : Things) (number place : ℕ) (class : ClassHead) (method : MethodHead) (callee : Method) (receiver : Option Ref) (at : Ref) (name : List ℕ) → StandsIn k number place class method → callee ≡ declared_as k place class method
+  pub finds_class : IsRunnable k → (heap heap' : Things) (number place : ℕ) (class : ClassHead) (method : MethodHead) (callee : Method) (receiver : Option Ref) (at : Ref) (name : List ℕ) → StandsIn k number place class method → callee ≡ declared_as k place class method
       → place < length k.heads → receiver ≡ None → name ≡ class.name → (at.0, heap') ≡ with_constant heap (ClassObject (class_type name)) → FindsLock k heap heap' callee receiver at
-  finds_class heap heap' number place class method callee receiver at name stands seen within none same e m others w is shares =
+  finds_class runnable heap heap' number place class method callee receiver at name stands seen within none same e m others w is shares =
       let plain : is_plain name ≡ true = ap is_plain same ∙ plain_head number place class method callee stands seen within is.distinct in
       let given = class_given heap others (class_type name) (fits plain) m.setting w (distinct_in m is) shares in
       record {
         shares = subst (λ (p : Placed). Shares m.setting p.1 others w) (sym e) given.2;
+        filled = λ filled.
+            subst (λ (p : Placed). AreFilled p.1 m.setting) (sym e)
+            (with_class_object m.setting (ap (λ (cs : Classes). cs.fields machine.class_class) is.classes ∙ class_fields k runnable) heap shares.heap.objects.whole filled (class_type name));
         named = λ sync.
             ap (λ (o : Option Ref). lock_of callee (option_map (name_of m.setting.heads heap.names) o)) none ∙ lock_class callee sync
             ∙ ap (λ (n : List ℕ). Some (machine.ClassObject n)) (ap (λ (x : Method). x.name.class) seen ∙ sym same)
@@ -95,6 +101,7 @@ module _ (k : Known) where
         record {
           shares = subst (λ (l : Option machine.Name). Shares m.setting heap (with_monitors others monitors) (entering l w)) (sym none) (subst (λ (ms : List ℕ). Shares m.setting heap (with_monitors others ms) w) same shares);
           named = sym none;
+          filled = λ filled. filled;
         };
   }
 
@@ -108,5 +115,6 @@ module _ (k : Known) where
         record {
           shares = subst (λ (l : Option machine.Name). Shares m.setting heap' (with_monitors others monitors') (entering l w)) (sym (has.named sync)) (enters m others w is same has.shares);
           named = sym (has.named sync);
+          filled = has.filled;
         };
   }

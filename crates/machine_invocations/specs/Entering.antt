@@ -21,6 +21,7 @@ use Rattle.machine_values.specs.Standing.{name_of, held}
 use Rattle.machine_values.specs.States.{machine_purpose, is_known_object}
 use Rattle.machine_values.specs.Things.{Things}
 use Rattle.machine_requests.specs.Monitors.{with_monitors}
+use Rattle.machine_requests.specs.Objects.{AreFilled}
 use Rattle.machine_requests.specs.Replies.{IsLonger}
 use Rattle.machine_requests.specs.Shares.{Others, Shares}
 use Rattle.machine_steps.specs.Programs.{Machine, IsMachine}
@@ -46,6 +47,7 @@ with_argument at v ls = if is_wide v then slice_set (slice_set ls at (Holds v)) 
 pub record LockedIn (m : Machine) (heap heap' : Things) (monitors' : List ℕ) (others : Others) (w : World) (callee : Method) (receiver monitor : Option Ref) : Type 0 where
   pub shares : Shares m.setting heap' (with_monitors others monitors') (entering (lock_of callee (option_map (name_of m.setting.heads heap.names) receiver)) w)
   pub named : option_map (name_of m.setting.heads heap'.names) monitor ≡ lock_of callee (option_map (name_of m.setting.heads heap.names) receiver)
+  pub filled : AreFilled heap m.setting → AreFilled heap' m.setting
 
 -- the monitor of a call of the method is entered
 pub record Locks (k : Known) (heap : Things) (monitors : List ℕ) (heap' : Things) (monitors' : List ℕ) (callee : Method) (receiver monitor : Option Ref) : Type 0 where
@@ -55,6 +57,7 @@ pub record Locks (k : Known) (heap : Things) (monitors : List ℕ) (heap' : Thin
 -- the object whose monitor is that of a call
 pub record HasLock (m : Machine) (heap heap' : Things) (others : Others) (w : World) (callee : Method) (receiver : Option Ref) (at : Ref) : Type 0 where
   pub shares : Shares m.setting heap' others w
+  pub filled : AreFilled heap m.setting → AreFilled heap' m.setting
   pub named : callee.is_synchronized ≡ true → lock_of callee (option_map (name_of m.setting.heads heap.names) receiver) ≡ option_map (name_of m.setting.heads heap'.names) (Some at)
 
 abbrev pub FindsLock : Known → Things → Things → Method → Option Ref → Ref → Type 0
@@ -62,9 +65,9 @@ FindsLock k heap heap' callee receiver at =
     (m : Machine) (others : Others) (w : World) → IsMachine k m → Shares m.setting heap others w → HasLock m heap heap' others w callee receiver at
 
 -- whatever world of the machine they stood for, they stand for it still
-abbrev pub LocksNothing : Known → Things → List ℕ → Things → List ℕ → Type 0
-LocksNothing k heap monitors heap' monitors' =
-    (m : Machine) (others : Others) (w : World) → IsMachine k m → others.monitors ≡ monitors → Shares m.setting heap others w → Shares m.setting heap' (with_monitors others monitors') w
+pub record LocksNothing (k : Known) (heap : Things) (monitors : List ℕ) (heap' : Things) (monitors' : List ℕ) : Type 0 where
+  pub shares : (m : Machine) (others : Others) (w : World) → IsMachine k m → others.monitors ≡ monitors → Shares m.setting heap others w → Shares m.setting heap' (with_monitors others monitors') w
+  pub filled : (m : Machine) (others : Others) (w : World) → IsMachine k m → Shares m.setting heap others w → AreFilled heap m.setting → AreFilled heap' m.setting
 
 -- the frame of a call as it begins, but for its monitor
 abbrev pub beginning : MethodId → MethodEntry → List Value → Purpose → Frame

@@ -12,6 +12,7 @@ use Rattle.machine_values.specs.declared.script.Answer.{Answer}
 use Rattle.machine_values.specs.declared.state.MachineState.{MachineState}
 use Rattle.machine_values.specs.States.{machine_due, IsFrameWithin, IsDueWithin}
 use Rattle.machine_requests.specs.Growth.{due_stays}
+use Rattle.machine_requests.specs.Objects.{AreFilled}
 use Rattle.machine_requests.specs.Replies.{IsLonger}
 use Rattle.machine_requests.specs.Shares.{Shares, others_of}
 use Rattle.machine_steps.specs.Programs.{Machine, IsMachine}
@@ -29,6 +30,7 @@ pub record Keeps (k : Known) (old new : MachineState) : Type 0 where
   pub begun : new.begun ≡ old.begun
   pub names : IsLonger old.heap new.heap
   pub shares : (m : Machine) (w : World) → IsMachine k m → Shares m.setting old.heap (others_of old) w → Shares m.setting new.heap (others_of new) w
+  pub filled : (m : Machine) (w : World) → IsMachine k m → Shares m.setting old.heap (others_of old) w → AreFilled old.heap m.setting → AreFilled new.heap m.setting
 
 -- so the state stands for what it stood for
 pub keeps_runs : (k : Known) (old new : MachineState) → Keeps k old new → (m : Machine) (left : List Answer) (t : State Place) → IsMachine k m → Runs m old left t → Runs m new left t
@@ -52,4 +54,5 @@ keeps_runs k old new keeps m left t is runs =
         due_within = subst (IsDueWithin (length new.heap.names)) (sym keeps.due) (due_more (length names) (length new.heap.names) many old.due runs.frames.due_within);
       };
       answers = runs.answers;
+      filled = keeps.filled m t.world is runs.shares runs.filled;
     }

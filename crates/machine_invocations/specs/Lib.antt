@@ -4,3 +4,4 @@ pub mod Standards
 pub mod Initialising
 pub mod Keeping
 pub mod Entering
+pub mod Showing

@@ -80,6 +80,7 @@ fn locked_object(
     method: MethodId,
     receiver: Option<Ref>,
 ) -> Result<Ref, AllocError>
+    requires runnable { IsRunnable world.now }
     requires method { IsMethod world.now method.0 }
     requires receiver { is_known_object (length heap.old.names) receiver ≡ true }
     ensures ok { IfOk result (λ at. (callee : Method) → Sees world.now method.0 callee → FindsLock world.now heap.old heap.new callee receiver at) }
@@ -108,6 +109,7 @@ fn lock(
     method: MethodId,
     receiver: Option<Ref>,
 ) -> Result<Option<Ref>, AllocError>
+    requires runnable { IsRunnable world.now }
     requires method { IsMethod world.now method.0 }
     requires receiver { is_known_object (length heap.old.names) receiver ≡ true }
     ensures ok { IfOk result (λ monitor. (callee : Method) → Sees world.now method.0 callee → Locks world.now heap.old monitors.old heap.new monitors.new callee receiver monitor) }
@@ -154,6 +156,7 @@ fn push_call(
     receiver: Option<Ref>,
     frame: Frame,
 ) -> Result<(), AllocError>
+    requires runnable { IsRunnable world.now }
     requires method { IsMethod world.now method.0 }
     requires receiver { is_known_object (length state.old.heap.names) receiver ≡ true }
     ensures ok { OnOk result ((callee : Method) → Sees world.now method.0 callee → PushesCall world.now state.old state.new callee receiver frame) }

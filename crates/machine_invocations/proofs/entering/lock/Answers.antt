@@ -5,6 +5,7 @@ use Rattle.class_machine.specs.World.{enter_monitor}
 use Rattle.machine_values.specs.Standing.{name_of}
 use Rattle.machine_values.specs.Things.{Things}
 use Rattle.machine_requests.specs.Monitors.{with_monitors}
+use Rattle.machine_requests.specs.Objects.{AreFilled}
 use Rattle.machine_requests.specs.Shares.{Shares}
 use Rattle.machine_invocations.proofs.Begun.{on_err}
 use Rattle.machine_invocations.proofs.Locked.{seen_there, distinct_in, unlocked, locked, entered_shares}
@@ -16,14 +17,20 @@ returns-then-not-is_synchronized-clause-ok c callee sees =
 
 pub returns-in_err-at-clause-err : goal.returns-in_err-at-clause-err
 returns-in_err-at-clause-err c =
-    on_err c.from_residual.result (λ m others w is same shares.
-    subst (λ (h : Things). Shares m.setting h (with_monitors others c.args.monitors.now) w) (sym c.in_err-at.ensures.err) (subst (λ (ms : List ℕ). Shares m.setting c.args.heap.now (with_monitors others ms) w) same shares))
+    on_err c.from_residual.result (record {
+      shares = λ m others w is same shares.
+          subst (λ (h : Things). Shares m.setting h (with_monitors others c.args.monitors.now) w) (sym c.in_err-at.ensures.err) (subst (λ (ms : List ℕ). Shares m.setting c.args.heap.now (with_monitors others ms) w) same shares);
+      filled = λ m others w is shares filled. subst (λ (h : Things). AreFilled h m.setting) (sym c.in_err-at.ensures.err) filled;
+    })
 
 pub returns-in_err-_entered-clause-err : goal.returns-in_err-_entered-clause-err
 returns-in_err-_entered-clause-err c =
-    on_err c.from_residual-in_err-_entered.result (λ m others w is same shares.
-    c.in_err-_entered.ensures.err c.locked_object.new.heap others same (lt-ltb c.in_ok-at.at.0 (length c.locked_object.new.heap.names) c.in_ok-at.ensures.within) m.setting w
-    ((c.in_ok-at.ensures.ok _ (seen_there c.args.world.now c.args.method.0 c.requires.method) m others w is shares).shares))
+    on_err c.from_residual-in_err-_entered.result (record {
+      shares = λ m others w is same shares.
+          c.in_err-_entered.ensures.err c.locked_object.new.heap others same (lt-ltb c.in_ok-at.at.0 (length c.locked_object.new.heap.names) c.in_ok-at.ensures.within) m.setting w
+          ((c.in_ok-at.ensures.ok _ (seen_there c.args.world.now c.args.method.0 c.requires.method) m others w is shares).shares);
+      filled = λ m others w is shares. (c.in_ok-at.ensures.ok _ (seen_there c.args.world.now c.args.method.0 c.requires.method) m others w is shares).filled;
+    })
 
 pub returns-clause-ok : goal.returns-clause-ok
 returns-clause-ok c callee sees =

@@ -14,5 +14,5 @@ returns-in-Some-clause-names c = ([], sym (append-nil c.args.heap.now.names))
 pub returns-in_ok-name-in-None-clause-ok : goal.returns-in_ok-name-in-None-clause-ok
 returns-in_ok-name-in-None-clause-ok c =
     IfOk-weaker c.class_object.result _ _
-    (λ at e callee sees. finds_class c.args.world.now c.args.heap.now c.class_object.new.self c.args.method.0 c.declared.result.class.0 c.declared.result.head.now c.declared.result.method.now callee c.args.receiver at c.in_ok-name-in-None.name
+    (λ at e callee sees. finds_class c.args.world.now c.requires.runnable c.args.heap.now c.class_object.new.self c.args.method.0 c.declared.result.class.0 c.declared.result.head.now c.declared.result.method.now callee c.args.receiver at c.in_ok-name-in-None.name
     c.declared.ensures.stands (c.declared.ensures.seen callee sees) c.declared.ensures.within c.in-None.is c.in_ok-name-in-None.ensures e) c.class_object.ensures.ok

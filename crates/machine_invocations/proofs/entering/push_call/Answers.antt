@@ -18,7 +18,8 @@ returns-in_err-monitor-clause-err c =
       statics = refl;
       begun = refl;
       names = c.lock.ensures.names;
-      shares = λ m w is shares. c.in_err-monitor.ensures.err m (others_of c.args.state.now) w is refl shares;
+      shares = λ m w is shares. c.in_err-monitor.ensures.err.shares m (others_of c.args.state.now) w is refl shares;
+      filled = λ m w is shares. c.in_err-monitor.ensures.err.filled m (others_of c.args.state.now) w is shares;
     })
 
 pub returns-clause-ok : goal.returns-clause-ok
