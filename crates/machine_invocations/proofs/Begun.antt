@@ -29,16 +29,17 @@ use Rattle.machine_invocations.proofs.Names.{superclasses_named}
 
 -- ---- what is left where nothing was done
 
-pub keeps_same : (old new : MachineState) → new ≡ record old { frames = new.frames } → new.frames.items ≡ old.frames.items → Keeps old new
-keeps_same old new same items =
-    subst (λ (s : MachineState). s.frames.items ≡ old.frames.items → Keeps old s) (sym same)
+pub keeps_same : (k : Known) (old new : MachineState) → new ≡ record old { frames = new.frames } → new.frames.items ≡ old.frames.items → Keeps k old new
+keeps_same k old new same items =
+    subst (λ (s : MachineState). s.frames.items ≡ old.frames.items → Keeps k old s) (sym same)
     (λ e. record {
       frames = e;
       due = refl;
       statics = refl;
       begun = refl;
       names = ([], sym (append-nil old.heap.names));
-      shares = λ s w distinct shares. shares;
+      shares = λ m w is shares. shares;
+      filled = λ m w is shares filled. filled;
     }) items
 
 pub on_err : {T E P : Type 0} (r : Result T E) → P → OnErr r P

@@ -6,3 +6,9 @@ pub mod Names
 pub mod Initialised
 pub mod Marking
 pub mod Begun
+pub mod Filled
+pub mod Fieldless
+pub mod Locked
+pub mod Entered
+pub mod Shown
+pub mod Left

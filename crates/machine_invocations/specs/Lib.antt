@@ -3,3 +3,5 @@ pub mod Selections
 pub mod Standards
 pub mod Initialising
 pub mod Keeping
+pub mod Entering
+pub mod Showing

@@ -187,7 +187,7 @@ pub fn begin(state: &mut MachineState, world: &World, class: ClassId) -> Result<
     requires class { class.0 < length world.now.heads }
     ensures begun { IfOk result (λ some. (m : Machine) (answers : List Answer) (t : State Place) → IsMachine world.now m → Runs m state.old answers t → Begins m state.new answers t (name_at world.now.heads class.0) some) }
     ensures formed { IsFormed world.now state.new }
-    ensures err { OnErr result (Keeps state.old state.new) }
+    ensures err { OnErr result (Keeps world.now state.old state.new) }
 {
     let alloc = *state.frames.allocator();
     let fresh = pending(alloc, world, state.begun.as_slice(), class)?;

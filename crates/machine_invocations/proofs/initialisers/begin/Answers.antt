@@ -6,7 +6,7 @@ use Rattle.machine_invocations.proofs.Begun.{keeps_same, formed_same, on_err, be
 use Rattle.machine_invocations.proofs.initialisers.begin.Goals as goal
 
 pub returns-in_err-fresh-clause-err : goal.returns-in_err-fresh-clause-err
-returns-in_err-fresh-clause-err c = on_err c.from_residual.result (keeps_same c.args.state.now c.args.state.now refl refl)
+returns-in_err-fresh-clause-err c = on_err c.from_residual.result (keeps_same c.args.world.now c.args.state.now c.args.state.now refl refl)
 
 pub returns-in_err-put_frames-clause-formed : goal.returns-in_err-put_frames-clause-formed
 returns-in_err-put_frames-clause-formed c =
@@ -16,7 +16,7 @@ returns-in_err-put_frames-clause-formed c =
 pub returns-in_err-put_frames-clause-err : goal.returns-in_err-put_frames-clause-err
 returns-in_err-put_frames-clause-err c =
     let new : MachineState = record c.args.state.now { frames = c.put_frames.new.frames } in
-    on_err c.from_residual-in_err-put_frames.result (keeps_same c.args.state.now new refl c.in_err-put_frames.ensures.err)
+    on_err c.from_residual-in_err-put_frames.result (keeps_same c.args.world.now c.args.state.now new refl c.in_err-put_frames.ensures.err)
 
 pub returns-clause-begun : goal.returns-clause-begun
 returns-clause-begun c =
