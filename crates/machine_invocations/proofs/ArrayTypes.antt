@@ -1,17 +1,17 @@
 -- The class whose members an array has, by its type.
-use Rattle.std.specs.Prelude.{◌≡◌, ℕ, zero, suc, ◌+◌, ◌<◌, ◌^◌, ◌==◌, ◌&&◌, ◌||◌, Bool, true, false, not, if◌then◌else◌, nat_lt, List, [], ◌∷◌, ◌++◌, replicate, length, take, drop, take_while, position, Option, Some, None, is_some, refl}
-use Rattle.std.proofs.Common.{sym, ap, ◌∙◌, subst, arith}
+use Rattle.std.specs.Prelude.{◌≡◌, ℕ, zero, suc, ◌+◌, ◌<◌, ◌^◌, ◌==◌, ◌&&◌, ◌||◌, Bool, true, false, not, if◌then◌else◌, nat_lt, List, [], ◌∷◌, ◌++◌, replicate, length, take, drop, Option, Some, None, is_some, refl}
+use Rattle.std.proofs.Common.{sym, ap, ◌∙◌, arith}
 use Rattle.std.specs.List.{list_all, position_from, prefix_len}
-use Rattle.std.proofs.lemmas.Bool.{and_parts, lt-ltb, ltb-true, false≢true}
-use Rattle.std.proofs.lemmas.List.{length-replicate, length-append, take_at, drop_at}
+use Rattle.std.proofs.lemmas.Bool.{and_parts, lt-ltb, false≢true}
+use Rattle.std.proofs.lemmas.List.{length-replicate, take_at, drop_at}
 use Rattle.std.proofs.lemmas.Iterator.Adapters.{position_from-zero}
 use Rattle.aj_names.specs.declared.types.Base.{Base}
 use Rattle.aj_names.specs.declared.types.Base.TheVariants as base
 use Rattle.aj_names.specs.declared.types.FieldType.{FieldType}
-use Rattle.aj_names.specs.Descriptors.{base_spelling, field_spelling}
-use Rattle.class_file.specs.Text.{Typed, is_class_name, up_to, class_type, base_type, as_array, with_dimensions, dimensions, field_type, is_ended, is_field_descriptor}
+use Rattle.aj_names.specs.Descriptors.{base_spelling}
+use Rattle.class_file.specs.Text.{is_class_name, up_to, base_type, as_array, with_dimensions, dimensions, is_ended, is_field_descriptor}
 use Rattle.class_heads.specs.declared.types.ClassHead.{ClassHead}
-use Rattle.class_heads.specs.Hierarchy.{TypeName, before_semicolon, type_of_descriptor, is_known, object_name, place_of}
+use Rattle.class_heads.specs.Hierarchy.{before_semicolon, type_of_descriptor, is_known, object_name, place_of}
 use Rattle.class_world.specs.Tables.{Known}
 use Rattle.machine_values.specs.Types.{base_name, type_name}
 use Rattle.machine_requests.specs.Telling.{is_letter, is_plain, is_plain_base, is_array_type}

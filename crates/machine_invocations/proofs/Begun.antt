@@ -1,5 +1,5 @@
 -- The state after a trigger.
-use Rattle.std.specs.Prelude.{◌≡◌, ℕ, suc, ◌<◌, ◌==◌, Bool, true, false, not, List, [], ◌∷◌, ◌++◌, map, reverse, length, Result, Ok, Err, OnErr, refl}
+use Rattle.std.specs.Prelude.{◌≡◌, ℕ, suc, ◌<◌, ◌==◌, Bool, not, List, [], ◌∷◌, ◌++◌, map, reverse, length, Result, Ok, Err, OnErr, refl}
 use Rattle.std.proofs.Common.{sym, ap, ◌∙◌, subst, arith}
 use Rattle.std.proofs.lemmas.Bool.{ne_eqb}
 use Rattle.std.specs.List.{AllByRecursion}
@@ -12,19 +12,16 @@ use Rattle.class_machine.specs.ClassFiles.{Place, class_code}
 use Rattle.class_machine.specs.Machine.{State}
 use Rattle.class_machine.specs.Turn as turns
 use Rattle.class_machine.specs.Turn.{initialisers, pending}
-use Rattle.class_machine.specs.World.{World}
 use Rattle.machine_values.specs.declared.frames.Frame.{Frame}
 use Rattle.machine_values.specs.declared.script.Answer.{Answer}
 use Rattle.machine_values.specs.declared.state.MachineState.{MachineState}
 use Rattle.machine_values.specs.States.{machine_frame, IsFrameWithin}
-use Rattle.machine_requests.specs.Shares.{Setting, Shares, others_of}
-use Rattle.machine_requests.specs.Telling.{AreDistinct}
 use Rattle.machine_steps.specs.Programs.{Machine, IsMachine}
 use Rattle.machine_steps.specs.Runs.{IsMethod, IsFormed, Runs}
 use Rattle.machine_invocations.specs.Methods.{classes_in}
 use Rattle.machine_invocations.specs.Standards.{machine_of, by_machine}
 use Rattle.machine_invocations.specs.Keeping.{Keeps}
-use Rattle.machine_invocations.specs.Initialising.{AreBare, ArePending, HasBegun, names_upward, has_frame, Begins}
+use Rattle.machine_invocations.specs.Initialising.{ArePending, HasBegun, names_upward, has_frame, Begins}
 use Rattle.machine_invocations.proofs.Names.{superclasses_named}
 
 -- ---- what is left where nothing was done

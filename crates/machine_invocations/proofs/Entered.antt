@@ -7,7 +7,7 @@ use Rattle.aj_names.specs.declared.ids.MethodId.{MethodId}
 use Rattle.class_file.specs.Pool.{Reference}
 use Rattle.class_world.specs.Tables.{Known}
 use Rattle.class_machine.specs.Classes.{Method, member_text}
-use Rattle.class_machine.specs.ClassFiles.{Place, MethodCode, place_in, method_code, entry_of, class_code}
+use Rattle.class_machine.specs.ClassFiles.{Place, place_in, method_code, entry_of, class_code}
 use Rattle.class_machine.specs.Events as events
 use Rattle.class_machine.specs.Machine as machines
 use Rattle.class_machine.specs.Machine.{State, moved}
@@ -29,7 +29,7 @@ use Rattle.machine_values.specs.declared.values.Value.{Value}
 use Rattle.machine_values.specs.declared.values.Local.{Local}
 use Rattle.machine_values.specs.Stacks.{Stack, weight}
 use Rattle.machine_values.specs.Standing.{name_of, held, Settled}
-use Rattle.machine_values.specs.States.{machine_frame, machine_purpose, machine_due, local_in, is_known_purpose, is_known_object, IsFrameWithin, IsDueWithin}
+use Rattle.machine_values.specs.States.{machine_frame, machine_purpose, machine_due, local_in, is_known_purpose, IsFrameWithin, IsDueWithin}
 use Rattle.machine_requests.specs.Growth.{frame_stays, due_stays}
 use Rattle.machine_requests.specs.Objects.{AreFilled}
 use Rattle.machine_requests.specs.Replies.{IsLonger}
@@ -43,8 +43,8 @@ use Rattle.machine_steps.specs.Within.{frame_more, frames_more, due_more}
 use Rattle.machine_steps.specs.Going.{waiting_stay}
 use Rattle.machine_invocations.specs.Methods.{classes_in, Sees}
 use Rattle.machine_invocations.specs.Standards.{machine_of, by_machine}
-use Rattle.machine_invocations.specs.Entering.{filled_with, beginning, Locks, PushesCall, enters_with}
-use Rattle.machine_invocations.proofs.Filled.{weight_same, filled_same, known_filled, under, over}
+use Rattle.machine_invocations.specs.Entering.{filled_with, beginning, PushesCall, enters_with}
+use Rattle.machine_invocations.proofs.Filled.{weight_same, filled_same, known_filled, under}
 use Rattle.machine_invocations.proofs.Initialised.{called_so}
 
 -- ---- one more frame

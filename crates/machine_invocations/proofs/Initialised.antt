@@ -1,7 +1,7 @@
 -- The initialisers of a world's classes, and their frames.
-use Rattle.std.specs.Prelude.{◌≡◌, ℕ, zero, suc, ◌+◌, ◌-◌, ◌<◌, ◌≤◌, ◌==◌, ◌&&◌, ◌||◌, Bool, true, false, not, if◌then◌else◌, List, [], ◌∷◌, ◌++◌, map, reverse, replicate, codes, length, slice_get, slice_index_or, Option, Some, None, refl}
+use Rattle.std.specs.Prelude.{◌≡◌, ℕ, zero, suc, ◌+◌, ◌-◌, ◌<◌, ◌≤◌, Bool, true, false, if◌then◌else◌, List, [], ◌∷◌, ◌++◌, map, reverse, replicate, codes, length, slice_index_or, Option, Some, None, refl}
 use Rattle.std.proofs.Common.{sym, ap, ◌∙◌, subst, arith}
-use Rattle.std.specs.List.{AllByRecursion, list_all, list_any}
+use Rattle.std.specs.List.{AllByRecursion}
 use Rattle.std.specs.Option.{option_map, option_and_then}
 use Rattle.std.proofs.lemmas.List.{append-nil, append_assoc, map-append, reverse-append}
 use Rattle.std.proofs.lemmas.Option.{same_Some}
@@ -9,15 +9,14 @@ use Rattle.aj_names.specs.declared.ids.ClassId.{ClassId}
 use Rattle.aj_names.specs.declared.ids.MethodId.{MethodId}
 use Rattle.aj_names.specs.declared.types.MemberName.{MemberName}
 use Rattle.class_file.specs.Pool.{Reference}
-use Rattle.class_heads.specs.declared.types.ClassHead.{ClassHead}
 use Rattle.class_heads.specs.Graph.{walk}
-use Rattle.class_heads.specs.Hierarchy.{is_array, object_name, name_at, place_of, superclass_at, superclasses}
+use Rattle.class_heads.specs.Hierarchy.{name_at, place_of, superclass_at}
 use Rattle.class_heads.specs.Numbers.{number_of, method_counts}
 use Rattle.class_heads.specs.Searches as search
 use Rattle.class_heads.specs.Searches.{MemberPlace, in_class}
 use Rattle.class_world.specs.Tables.{Known}
 use Rattle.class_machine.specs.Values as machine
-use Rattle.class_machine.specs.Classes.{Method, is_among}
+use Rattle.class_machine.specs.Classes.{Method}
 use Rattle.class_machine.specs.ClassFiles.{Place, place_in, MethodCode, method_code, entry_of, field_constant, class_code}
 use Rattle.class_machine.specs.Declarations as run
 use Rattle.class_machine.specs.Turn as turns
@@ -25,7 +24,7 @@ use Rattle.class_machine.specs.Turn.{initialiser_at, own_initialiser, initialise
 use Rattle.machine_code.specs.declared.method_code.MethodCode as lent
 use Rattle.machine_code.specs.CodeLaws.{method_seen, method_is, name_is}
 use Rattle.machine_code.specs.FirstLaws.{declared_is_first}
-use Rattle.machine_code.specs.Programs.{IsFirst, method_name}
+use Rattle.machine_code.specs.Programs.{method_name}
 use Rattle.machine_code.specs.Views.{code_seen}
 use Rattle.machine_values.specs.declared.frames.Frame.{Frame}
 use Rattle.machine_values.specs.declared.frames.Purpose.TheVariants as purpose
@@ -34,7 +33,6 @@ use Rattle.machine_values.specs.declared.values.Local.{Local}
 use Rattle.machine_values.specs.declared.values.Local.TheVariants.{Unset}
 use Rattle.machine_values.specs.Stacks.{Stack}
 use Rattle.machine_values.specs.States.{machine_frame, local_in, is_known_local, IsFrameWithin}
-use Rattle.machine_requests.specs.Telling.{AreDistinct}
 use Rattle.machine_steps.specs.Programs.{IsMachine}
 use Rattle.machine_steps.specs.Runs.{IsMethod}
 use Rattle.machine_invocations.specs.Methods.{classes_in, method_in, Sees}

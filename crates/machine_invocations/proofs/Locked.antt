@@ -1,12 +1,11 @@
 -- Monitors of calls.
-use Rattle.std.specs.Prelude.{◌≡◌, ℕ, ◌<◌, ◌&&◌, Bool, true, false, nat_lt, List, [], ◌∷◌, length, slice_get, Option, Some, None, refl}
+use Rattle.std.specs.Prelude.{◌≡◌, ℕ, ◌<◌, ◌&&◌, Bool, true, false, nat_lt, List, length, Option, Some, None, refl}
 use Rattle.std.proofs.Common.{sym, ap, ◌∙◌, subst}
 use Rattle.std.specs.Option.{option_map}
 use Rattle.aj_names.specs.declared.types.Base.TheVariants as base
 use Rattle.aj_names.specs.declared.types.FieldType.{FieldType}
 use Rattle.class_heads.specs.declared.types.ClassHead.{ClassHead}
 use Rattle.class_heads.specs.declared.types.MethodHead.{MethodHead}
-use Rattle.class_heads.specs.Hierarchy.{name_at}
 use Rattle.class_world.specs.Tables.{Known}
 use Rattle.class_machine.specs.Answers as answers
 use Rattle.class_machine.specs.Classes.{Method, Classes}
@@ -30,7 +29,7 @@ use Rattle.machine_requests.proofs.NewArrays.{class_given}
 use Rattle.machine_steps.specs.Programs.{IsRunnable, Machine, IsMachine}
 use Rattle.machine_steps.specs.Runs.{IsMethod}
 use Rattle.machine_invocations.specs.Methods.{declared_as, Sees, StandsIn}
-use Rattle.machine_invocations.specs.Entering.{LockedIn, Locks, HasLock, FindsLock}
+use Rattle.machine_invocations.specs.Entering.{Locks, FindsLock}
 use Rattle.machine_invocations.proofs.Fieldless.{class_fields, with_class_object}
 use Rattle.machine_invocations.proofs.Seen.{class_named}
 

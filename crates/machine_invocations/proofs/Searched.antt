@@ -1,24 +1,20 @@
 -- What searches find, by numbers of methods.
-use Rattle.std.specs.Prelude.{◌≡◌, ℕ, ◌&&◌, Bool, true, false, not, if◌then◌else◌, List, [], ◌∷◌, length, map, slice_get, Option, Some, None, refl}
-use Rattle.std.proofs.Common.{sym, ap, ◌∙◌, subst}
+use Rattle.std.specs.Prelude.{◌≡◌, ℕ, List, length, Option, Some, None, refl}
+use Rattle.std.proofs.Common.{sym, ap, subst}
 use Rattle.std.specs.Option.{option_map, option_and_then}
 use Rattle.std.proofs.lemmas.Option.{same_Some, none-some}
 use Rattle.aj_names.specs.declared.ids.MethodId.{MethodId}
-use Rattle.aj_names.specs.declared.types.MemberName.{MemberName}
 use Rattle.class_file.specs.Pool.{NamedType, Reference}
-use Rattle.class_heads.specs.declared.types.MethodHead.{MethodHead}
-use Rattle.class_heads.specs.declared.types.ClassHead.{ClassHead}
 use Rattle.class_heads.specs.Hierarchy.{superclasses}
 use Rattle.class_heads.specs.Numbers.{number_of, method_counts}
-use Rattle.class_heads.specs.Searches.{MemberPlace, in_class, first_found, find_method, selectable_in}
+use Rattle.class_heads.specs.Searches.{MemberPlace, first_found, find_method, selectable_in}
 use Rattle.class_world.specs.Tables.{Known}
-use Rattle.class_machine.specs.Classes.{Method}
 use Rattle.class_machine.specs.Declarations.{member_name}
 use Rattle.machine_code.specs.FirstLaws.{found_is_first, selectable_found_is_first}
 use Rattle.machine_code.specs.CodeLaws.{method_seen, method_is}
 use Rattle.machine_code.specs.Programs.{IsFirst}
 use Rattle.class_machine.specs.ClassFiles.{field_constant}
-use Rattle.machine_invocations.specs.Methods.{classes_in, members_in, method_in, Sees, Finds}
+use Rattle.machine_invocations.specs.Methods.{classes_in, members_in, method_in, Finds}
 
 module _ (k : Known) where
   pub finds : (id : Option MethodId) (found : Option MemberPlace) → ((place : MemberPlace) → found ≡ Some place → IsFirst k.heads place)

@@ -1,5 +1,5 @@
 -- What is known of a method by its number.
-use Rattle.std.specs.Prelude.{◌≡◌, ℕ, ◌+◌, ◌<◌, ◌||◌, not, Bool, true, false, if◌then◌else◌, nat_lt, List, [], length, map, slice_get, Option, Some, None, unwrap_or, refl}
+use Rattle.std.specs.Prelude.{◌≡◌, ℕ, ◌<◌, ◌||◌, not, Bool, true, false, if◌then◌else◌, nat_lt, List, [], length, slice_get, Option, Some, None, unwrap_or, refl}
 use Rattle.std.proofs.Common.{get_or, sym, ap, ◌∙◌, subst, inl, inr, arith}
 use Rattle.std.specs.List.{sum}
 use Rattle.std.specs.Option.{option_map, option_and_then}
@@ -12,7 +12,7 @@ use Rattle.class_file.specs.declared.types.ClassFile.{ClassFile}
 use Rattle.class_heads.specs.Hierarchy.{name_at}
 use Rattle.class_heads.specs.declared.types.MethodHead.{MethodHead}
 use Rattle.class_heads.specs.declared.types.ClassHead.{ClassHead}
-use Rattle.class_heads.specs.Numbers.{number_of, IsNumbered, method_counts}
+use Rattle.class_heads.specs.Numbers.{IsNumbered, method_counts}
 use Rattle.class_heads.specs.Searches.{MemberPlace, in_class}
 use Rattle.class_world.specs.Tables.{Known}
 use Rattle.class_file.specs.Pool.{NamedType}

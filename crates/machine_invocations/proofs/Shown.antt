@@ -1,5 +1,5 @@
 -- What objects are shown as.
-use Rattle.std.specs.Prelude.{◌≡◌, ℕ, ◌<◌, Bool, true, false, if◌then◌else◌, List, [], length, slice_get, Option, Some, None, unwrap_or, refl}
+use Rattle.std.specs.Prelude.{◌≡◌, ℕ, Bool, true, false, if◌then◌else◌, List, [], length, slice_get, Option, Some, unwrap_or, refl}
 use Rattle.std.proofs.Common.{sym, ap, ◌∙◌, subst}
 use Rattle.std.specs.Str.{bytes_eq}
 use Rattle.std.proofs.lemmas.Bool.{ltb-true}
@@ -15,7 +15,6 @@ use Rattle.class_machine.specs.World as worlds
 use Rattle.class_machine.specs.World.{World, units_at, shown, shown_object}
 use Rattle.machine_values.specs.declared.content.Content.{Content}
 use Rattle.machine_values.specs.declared.content.Content.TheVariants.{Values, Text, Fixed}
-use Rattle.machine_values.specs.declared.names.Maker.{Maker}
 use Rattle.machine_values.specs.declared.names.Maker.TheVariants.{Class, Array}
 use Rattle.machine_values.specs.declared.names.Name.{Name}
 use Rattle.machine_values.specs.declared.names.Name.TheVariants.{Made, Literal, ClassObject}
@@ -28,7 +27,7 @@ use Rattle.machine_values.specs.Standing.{name_in, machine_name, object_of}
 use Rattle.machine_values.specs.Things.{Things}
 use Rattle.machine_values.specs.Types.{type_name}
 use Rattle.machine_requests.specs.Shares.{Setting, Others, Shares}
-use Rattle.machine_requests.specs.Telling.{is_plain_base, is_array_type, AreDistinct}
+use Rattle.machine_requests.specs.Telling.{is_plain_base, AreDistinct}
 use Rattle.machine_requests.specs.TellingLaws.{plain_no_array, array_is_array, fit_at}
 use Rattle.machine_requests.proofs.Found.{made_found}
 use Rattle.std.proofs.lemmas.Bool.{and_parts}

@@ -1,12 +1,11 @@
 -- What a refused call leaves of a state.
-use Rattle.std.specs.Prelude.{◌≡◌, ℕ, ◌≤◌, List, length}
+use Rattle.std.specs.Prelude.{◌≡◌, ◌≤◌, List, length}
 use Rattle.std.proofs.Common.{sym, ◌∙◌, ap, subst, arith, length-append}
 use Rattle.std.specs.List.{AllByRecursion}
 use Rattle.class_world.specs.Tables.{Known}
 use Rattle.class_machine.specs.ClassFiles.{Place}
 use Rattle.class_machine.specs.Machine.{State}
 use Rattle.class_machine.specs.World.{World}
-use Rattle.machine_values.specs.declared.frames.Frame.{Frame}
 use Rattle.machine_values.specs.declared.names.Name.{Name}
 use Rattle.machine_values.specs.declared.script.Answer.{Answer}
 use Rattle.machine_values.specs.declared.state.MachineState.{MachineState}

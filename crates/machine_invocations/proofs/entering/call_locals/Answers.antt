@@ -1,4 +1,4 @@
-use Rattle.std.proofs.Common.{◌≡◌, ◌+◌, sym, subst, arith, get_or, pos}
+use Rattle.std.proofs.Common.{◌+◌, sym, subst, arith, get_or, pos}
 use Rattle.std.proofs.lemmas.List.{get_or_default}
 use Rattle.machine_values.specs.declared.values.Value.{Value}
 use Rattle.machine_values.specs.declared.values.Value.TheVariants.{Int}

@@ -1,5 +1,5 @@
-use Rattle.std.proofs.Common.{◌≡◌, sym, ap, ◌∙◌, subst, length}
-use Rattle.std.specs.Prelude.{ℕ, List, nat_lt, true, Some}
+use Rattle.std.proofs.Common.{◌≡◌, sym, ◌∙◌, subst, length}
+use Rattle.std.specs.Prelude.{ℕ, List, nat_lt, true}
 use Rattle.std.proofs.lemmas.Bool.{lt-ltb}
 use Rattle.class_machine.specs.World.{enter_monitor}
 use Rattle.machine_values.specs.Standing.{name_of}

@@ -1,4 +1,4 @@
-use Rattle.std.proofs.Common.{◌≡◌, refl, sym, ap, ◌∙◌, subst, length, arith}
+use Rattle.std.proofs.Common.{◌≡◌, refl, ap, ◌∙◌, subst, length, arith}
 use Rattle.std.specs.Prelude.{List, Bool, not, ◌==◌, vec_len}
 use Rattle.machine_values.specs.declared.state.MachineState.{MachineState}
 use Rattle.machine_invocations.specs.Initialising.{ArePending}

@@ -1,4 +1,4 @@
-use Rattle.std.proofs.Common.{◌≡◌, sym, ap, ◌∙◌, arith}
+use Rattle.std.proofs.Common.{sym, ap, ◌∙◌, arith}
 use Rattle.std.specs.Prelude.{Bool, if◌then◌else◌, None}
 use Rattle.class_heads.specs.Hierarchy.{place_of, object_name}
 use Rattle.machine_invocations.proofs.ArrayTypes.{array_members, not_array}

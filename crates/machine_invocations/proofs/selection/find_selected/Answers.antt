@@ -1,5 +1,5 @@
 use Rattle.std.proofs.Common.{◌≡◌, arith, sym, ap, ◌∙◌, subst}
-use Rattle.std.specs.Prelude.{Option, Some, None, List, [], ◌<◌, length}
+use Rattle.std.specs.Prelude.{Option, Some, None, []}
 use Rattle.std.specs.Option.{option_map, option_to_list}
 use Rattle.aj_names.specs.declared.ids.ClassId.{ClassId}
 use Rattle.aj_names.specs.declared.ids.MethodId.{MethodId}
@@ -9,7 +9,7 @@ use Rattle.class_heads.specs.Searches.{selectable_in}
 use Rattle.machine_invocations.specs.Methods.{classes_in, Finds}
 use Rattle.machine_invocations.specs.Selections.{member_named, type_named}
 use Rattle.machine_invocations.proofs.Searched.{selected_found}
-use Rattle.machine_invocations.proofs.Upward.{number_in, found_upward, none_here, search_tops, search_goes_on, search_ends}
+use Rattle.machine_invocations.proofs.Upward.{found_upward, none_here, search_tops, search_goes_on, search_ends}
 use Rattle.machine_invocations.proofs.selection.find_selected.Goals as goal
 
 pub returns-in-Some : goal.returns-in-Some

@@ -1,7 +1,6 @@
 use Rattle.std.proofs.Common.{Bool, sym, ap, ◌∙◌}
 use Rattle.std.specs.Prelude.{◌||◌, not}
 use Rattle.class_heads.specs.Hierarchy.{name_at}
-use Rattle.class_machine.specs.Classes.{is_constructor}
 use Rattle.machine_invocations.specs.Methods.{classes_in}
 use Rattle.machine_invocations.proofs.selection.is_itself.Goals as goal
 

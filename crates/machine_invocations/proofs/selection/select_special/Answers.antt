@@ -1,5 +1,5 @@
 use Rattle.std.proofs.Common.{◌≡◌, sym, ap, ◌∙◌, subst}
-use Rattle.std.specs.Prelude.{Option, Some, List, [], ◌-◌, ℕ, map, length}
+use Rattle.std.specs.Prelude.{Option, List, [], ◌-◌, ℕ, map, length}
 use Rattle.std.specs.Option.{option_map, option_to_list}
 use Rattle.aj_names.specs.declared.ids.ClassId.{ClassId}
 use Rattle.class_heads.specs.Graph.{walk}
@@ -7,7 +7,6 @@ use Rattle.class_heads.specs.Hierarchy.{name_at, superclass_at}
 use Rattle.class_machine.specs.Classes.{Method, is_among}
 use Rattle.machine_invocations.specs.Methods.{classes_in, Finds}
 use Rattle.machine_invocations.specs.Initialising.{names_upward}
-use Rattle.machine_invocations.specs.Selections.{type_named}
 use Rattle.machine_invocations.proofs.Seen.{member_is, itself, not_itself}
 use Rattle.machine_invocations.proofs.Upward.{direct_up, direct_top, above_other, above_selected}
 use Rattle.machine_invocations.proofs.Names.{superclasses_named, class_has_members}

@@ -1,6 +1,5 @@
 use Rattle.std.proofs.Common.{◌∙◌, ap}
 use Rattle.std.specs.Prelude.{Some}
-use Rattle.machine_values.specs.declared.names.Name.{Name}
 use Rattle.machine_invocations.proofs.Shown.{shows_literal, shows_class}
 use Rattle.machine_invocations.proofs.showing.show_object.Goals as goal
 
