@@ -1,6 +1,6 @@
 //! The laws, as contracts of functions that do nothing.
 
-ghost use Rattle.std.specs.Prelude.{◌≡◌, ◌<◌, ◌==◌, ℕ, true, List, [], ◌++◌, map, length, slice_get, Some};
+ghost use Rattle.std.specs.Prelude.{◌≡◌, ◌<◌, ◌==◌, ℕ, true, List, [], ◌++◌, map, length, slice_get, Some, None, unwrap_or};
 ghost use Rattle.std.specs.List.{AllByRecursion};
 ghost use Rattle.aj_names.specs.declared.ids.ClassId.{ClassId as ClassIdOf};
 ghost use Rattle.aj_names.specs.declared.types.FieldType.{FieldType};
@@ -25,7 +25,9 @@ ghost use Rattle.machine_values.specs.NumberLaws.{IsTold};
 ghost use Rattle.machine_values.specs.Standing.{AreNumbered, IsSettledContent, held, machine_name, maker_name, name_in, object_of};
 ghost use Rattle.machine_values.specs.States.{is_known, machine_frame, machine_due, IsFrameWithin, IsDueWithin, Represents};
 ghost use Rattle.machine_values.specs.Things.{Things, changed, is_constant, with_constant, with_made};
-ghost use Rattle.machine_requests.specs.Objects.{IsClass, StaysFilled};
+ghost use Rattle.machine_values.specs.declared.values.Value.TheVariants.{Null};
+ghost use Rattle.machine_requests.specs.Objects.{IsClass, StaysFilled, field_place, fields_at};
+ghost use Rattle.machine_requests.specs.Texts.{text_seen};
 ghost use Rattle.machine_requests.specs.Shares.{HasFrames, Others, Setting, Shares, others_of};
 ghost use Rattle.machine_requests.specs.Telling.{AreDistinct, AreFit, is_fit, is_fit_maker, is_plain};
 
@@ -98,4 +100,19 @@ pub fn literal_filled()
 /// Or a text.
 pub fn text_filled()
     ensures { (things : Things) (class : ClassIdOf) (types : List FieldType) (units : List ℕ) (s : Setting) → IsClass class.0 true types s → StaysFilled things (with_made things (Class class) (Text units)).1 s }
+{}
+
+/// What the machine reads of a field of an object is the value at the field's place; it reads null of a
+/// field that objects of the class lack.
+pub fn fields_read()
+    ensures there { (s : Setting) (things : Things) (others : Others) (w : worlds.World) (at p : ℕ) (r : Reference) → AreDistinct s.heads → Shares s things others w → at < length things.names
+        → field_place (s.classes.fields (machine.class_of (name_in s.heads (slice_get things.names at)))) r ≡ Some p → worlds.read_field w (name_in s.heads (slice_get things.names at)) r ≡ held s.heads things.names (unwrap_or (slice_get (fields_at things at) p) Null) }
+    ensures none { (s : Setting) (things : Things) (others : Others) (w : worlds.World) (at : ℕ) (r : Reference) → AreDistinct s.heads → Shares s things others w → at < length things.names
+        → field_place (s.classes.fields (machine.class_of (name_in s.heads (slice_get things.names at)))) r ≡ None → worlds.read_field w (name_in s.heads (slice_get things.names at)) r ≡ machine.Null }
+{}
+
+/// The text that the machine reads of an object is that of the heap.
+pub fn texts_read()
+    ensures { (s : Setting) (things : Things) (others : Others) (w : worlds.World) (at : ℕ) → AreDistinct s.heads → Shares s things others w → at < length things.names
+        → worlds.units_at w (name_in s.heads (slice_get things.names at)) ≡ text_seen (slice_get things.names at) (slice_get things.contents at) }
 {}

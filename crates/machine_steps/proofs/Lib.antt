@@ -6,3 +6,4 @@ pub mod Caught
 pub mod InLibrary
 pub mod Thrown
 pub mod Settings
+pub mod Messaging

@@ -15,4 +15,5 @@ pub mod Leaving
 pub mod Unwound
 pub mod Dropped
 pub mod Tellings
+pub mod Messages
 pub mod Raised

@@ -44,6 +44,7 @@ use Rattle.machine_steps.specs.Running.{seen_by, waiting}
 use Rattle.machine_steps.specs.Within.{frames_more, due_more}
 use Rattle.machine_steps.specs.Going.{all_reversed}
 use Rattle.machine_steps.specs.Unwinding.{Passes, FailsFor, Unwinds}
+use Rattle.machine_steps.specs.Messages.{HasMessage}
 use Rattle.machine_steps.specs.Unwound.{out_of_initialiser, out_of_all}
 
 -- ---- of the running frame only its locals count
@@ -82,11 +83,6 @@ unwinds_raised k old new step class at of_class unwinds m answers t f below c is
     subst (Stepped m new answers step) (
     ap (unwound (class_code m.files) m.setting.classes t.due x t.world) same ∙ sym (locals_decide m t.due f c below x t.world locals)
     ) (unwinds m answers t is (of_class m answers t is runs) runs)
-
--- whatever state of the machine the state stands for, the message of the exception is that one
-abbrev pub HasMessage : Known → MachineState → Ref → Option (List ℕ) → Type 0
-HasMessage k state at message =
-    (m : Machine) (answers : List Answer) (t : State Place) → IsMachine k m → Runs m state answers t → message_of t.world (name_of m.setting.heads state.heap.names at) ≡ message
 
 pub fails_unwinds : (k : Known) (old new : MachineState) (class failed : ℕ) (at : Ref) (name : List ℕ) → FailsFor k class old.frames.items failed → name ≡ name_at k.heads failed
     → Unwinds k old new (Ended (endings.InitFailed name)) class at

@@ -6,6 +6,7 @@
 mod faults;
 mod going;
 mod leaving;
+mod messages;
 mod raising;
 mod running;
 mod step;

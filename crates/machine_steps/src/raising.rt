@@ -3,19 +3,17 @@
 ghost use Rattle.std.specs.Prelude.{◌≡◌, ◌<◌, ℕ, true, false, length, is_some, slice_get, IfOk, OnErr};
 ghost use Rattle.class_heads.specs.Hierarchy.{name_at, place_of};
 ghost use Rattle.class_machine.specs.Values.{class_of};
-ghost use Rattle.class_machine.specs.World.{World as Place, message_of};
-ghost use Rattle.machine_values.specs.declared.script.Answer.{Answer};
 ghost use Rattle.machine_values.specs.Standing.{name_of};
-ghost use Rattle.machine_steps.specs.Programs.{IsRunnable, Machine, IsMachine};
+ghost use Rattle.machine_steps.specs.Programs.{IsRunnable};
 ghost use Rattle.machine_steps.specs.Runs.{IsFormed};
 ghost use Rattle.machine_steps.specs.Moves.{MovesWithLocals, faults, raises};
 ghost use Rattle.machine_steps.specs.Ends.{ends};
-ghost use Rattle.machine_steps.specs.Raised.{HasMessage};
 ghost use Rattle.machine_steps.specs.Unwinding.{Catches, Unwinds};
 
 use crate::faults::fault_class;
 use crate::going::give;
 use crate::leaving::{empty, leave_above};
+use crate::messages::message_of;
 use crate::running::class_name;
 use crate::step::Step;
 use crate::unwinding::{Way, way_of};
@@ -24,7 +22,6 @@ use class_machine::kinds::Fault;
 use class_world::World;
 use machine_fields::{class_at, make_object};
 use machine_values::{Ending, MachineState, Ref, Value};
-use sqlite_items::Items;
 use std::alloc::AllocError;
 
 // The frame of that number takes the exception at the place, with no other operand.
@@ -84,18 +81,6 @@ pub fn fail(state: &mut MachineState, world: &World, fault: Fault) -> Result<Ste
     }
 }
 
-// The message of the exception, in memory of its own.
-fn message_copy(
-    state: &MachineState,
-    world: &World,
-    x: Ref,
-) -> Result<Option<Items<u16>>, AllocError>
-    requires { x.0 < length state.now.heap.names }
-    ensures { IfOk result (λ text. HasMessage world.now state.now x text) }
-{
-    Err(AllocError)
-}
-
 /// Throws the object, whose class the world has (JVMS 3.10, 6, `athrow`). Where the run ends the state
 /// is as it was.
 ///
@@ -122,7 +107,7 @@ pub fn raise(state: &mut MachineState, world: &World, x: Ref) -> Result<Step, Al
         }
         Way::Leaves => {
             let name = name_copy(state, world, class)?;
-            let message = message_copy(state, world, x)?;
+            let message = message_of(state, world, class, x)?;
             Ok(Step::Ended(Ending::Uncaught(name, message)))
         }
     }

@@ -26,4 +26,4 @@ returns-in_ok-message-in-Leaves-clause-moves c =
     let k = c.args.world.now in
     let old = c.args.state.now in
     unwinds_raised k old old (Ended (endings.Uncaught c.in_ok-name-in-Leaves.name c.in_ok-message-in-Leaves.message)) c.in-Some.class.0 c.args.x (λ m answers t is runs. class_is k old c.args.x m answers t is runs c.in-Some.class c.in-Some.ensures.place)
-    (leaves_unwinds k old old c.in-Some.class.0 c.args.x c.in_ok-name-in-Leaves.name c.in_ok-message-in-Leaves.message c.in-Leaves.ensures c.in_ok-name-in-Leaves.ensures c.in_ok-message-in-Leaves.ensures)
+    (leaves_unwinds k old old c.in-Some.class.0 c.args.x c.in_ok-name-in-Leaves.name c.in_ok-message-in-Leaves.message c.in-Leaves.ensures c.in_ok-name-in-Leaves.ensures (c.in_ok-message-in-Leaves.ensures (λ m answers t is runs. class_is k old c.args.x m answers t is runs c.in-Some.class c.in-Some.ensures.place)))
