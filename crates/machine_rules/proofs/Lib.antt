@@ -4,6 +4,7 @@ mod Declared
 mod Finished
 mod Giving
 mod Hashes
+mod IdentityWork
 mod Library
 mod Selection
 mod Standing

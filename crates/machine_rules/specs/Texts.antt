@@ -1,13 +1,16 @@
 -- Texts of objects.
-use Rattle.std.specs.Prelude.{ℕ, ◌-◌, ◌&&◌, Bool, true, false, if◌then◌else◌, nat_le, List, [], length, take, drop, slice_get, Option, Some, None, ℤ, pos, negsuc}
+use Rattle.std.specs.Prelude.{ℕ, ◌-◌, ◌==◌, ◌&&◌, Bool, true, false, if◌then◌else◌, nat_le, List, [], length, take, drop, slice_get, Option, Some, None, ℤ, pos, negsuc}
 use Rattle.std.specs.Str.{bytes_eq}
 use Rattle.std.specs.Option.{unwrap_or}
 use Rattle.class_heads.specs.declared.types.ClassHead.{ClassHead}
 use Rattle.class_machine.specs.LibraryCalls.{is_string}
+use Rattle.class_machine.specs.Texts.{class_text}
+use Rattle.machine_values.specs.Types.{type_name}
+use Rattle.machine_values.specs.declared.values.Ref.{Ref}
 use Rattle.machine_values.specs.declared.values.Value.{Value}
 use Rattle.machine_values.specs.declared.values.Value.TheVariants.{Int, Null, Reference as Pointer}
 use Rattle.machine_values.specs.declared.names.Name.{Name}
-use Rattle.machine_values.specs.declared.names.Name.TheVariants.{Made, Literal}
+use Rattle.machine_values.specs.declared.names.Name.TheVariants.{Made, Literal, ClassObject}
 use Rattle.machine_values.specs.declared.content.Content.{Content}
 use Rattle.machine_values.specs.declared.content.Content.TheVariants.{Text}
 use Rattle.machine_values.specs.Things.{Things}
@@ -59,3 +62,15 @@ same_units_as heads things units v = false
 abbrev pub truth_value : Bool → Value
 truth_value true = Int (pos 1)
 truth_value false = Int (pos 0)
+
+-- the dotted name of the class or array type that an object stands for
+abbrev pub class_object_in : Option Name → Option (List ℕ)
+class_object_in (Some (ClassObject type)) = Some (class_text (type_name type))
+class_object_in name = None
+
+abbrev pub class_object_text : Things → ℕ → Option (List ℕ)
+class_object_text things at = class_object_in (slice_get things.names at)
+
+abbrev pub is_same_place : Ref → Value → Bool
+is_same_place at (Pointer other) = at.0 == other.0
+is_same_place at v = false

@@ -9,6 +9,7 @@
 mod arguments;
 mod classes;
 mod finishing;
+mod identity;
 mod numbers;
 mod objects;
 mod selecting;
