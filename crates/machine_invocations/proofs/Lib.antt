@@ -12,3 +12,4 @@ pub mod Locked
 pub mod Entered
 pub mod Shown
 pub mod Left
+pub mod Returned

@@ -5,3 +5,4 @@ pub mod Initialising
 pub mod Keeping
 pub mod Entering
 pub mod Showing
+pub mod Returning

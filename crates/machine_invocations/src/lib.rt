@@ -8,6 +8,7 @@ mod entering;
 mod initialisers;
 mod leaving;
 mod methods;
+mod returning;
 mod search;
 mod selection;
 mod showing;
@@ -20,6 +21,7 @@ pub use methods::{
     Declaration, declared, declaring_class, is_constructor, is_native, is_private, is_static,
     is_synchronized, rule_of,
 };
+pub use returning::take_back;
 pub use search::{class_of_members, class_of_object, find_method};
 pub use selection::{find_selected, select, select_special, superclass_of};
 pub use showing::show;
