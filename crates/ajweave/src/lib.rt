@@ -12,6 +12,3 @@ mod weave;
 
 pub use status::{Refusal, Status};
 pub use top::weaver_main;
-
-#[cfg(test)]
-mod tests;

@@ -11,6 +11,3 @@ mod weave;
 
 pub use advice::aspect_class;
 pub use weave::weave_classes;
-
-#[cfg(test)]
-mod tests;

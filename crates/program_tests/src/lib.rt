@@ -10,6 +10,4 @@ mod runs;
 #[cfg(test)]
 mod tests;
 #[cfg(test)]
-mod units;
-#[cfg(test)]
 mod worlds;

@@ -32,37 +32,45 @@ fn names_fault(alloc: Global, case: Case<'_>) -> Result<bool, AllocError> {
     Ok(is_refused(&left, case.1, 1))
 }
 
+/// Class files with a fault.
+const CLASS_FAULTS: [Case<'static>; 23] = [
+    (&[(0, 0)], "refused: a/C.class magic\n"),
+    (&[(7, 45)], "refused: a/C.class version 45\n"),
+    (&[(7, 50)], "refused: a/C.class version 50\n"),
+    (&[(6, 1), (7, 0)], "refused: a/C.class version 256\n"),
+    // The tag of an entry, and the index in one.
+    (&[(10, 2)], "refused: a/C.class pool-tag 1 2\n"),
+    (&[(200, 19)], "refused: a/C.class pool-tag 23 19\n"),
+    (&[(16, 2)], "refused: a/C.class pool-ref 2\n"),
+    (&[(199, 20)], "refused: a/C.class pool-ref 22\n"),
+    // An index of 0, the class itself, its superclass, and the name of a method.
+    (&[(9, 0)], "refused: a/C.class pool-ref 0\n"),
+    (&[(210, 3)], "refused: a/C.class pool-ref 3\n"),
+    (&[(212, 3)], "refused: a/C.class pool-ref 3\n"),
+    (&[(222, 8)], "refused: a/C.class pool-ref 8\n"),
+    // A byte of a text.
+    (&[(13, 0)], "refused: a/C.class utf8 1\n"),
+    // The length of a Code, by its third byte and its last, and that of its code.
+    (&[(231, 1)], "refused: a/C.class truncated 286\n"),
+    (&[(232, 20)], "refused: a/C.class attribute-length 229\n"),
+    (&[(232, 22)], "refused: a/C.class attribute-length 229\n"),
+    (&[(240, 10)], "refused: a/C.class attribute-length 229\n"),
+    // An opcode, an operand, a cut instruction, and a place where the code would run out.
+    (&[(241, 186)], "refused: a/C.class code 0 0\n"),
+    (&[(245, 11)], "refused: a/C.class code 0 3\n"),
+    (&[(249, 184)], "refused: a/C.class code 0 8\n"),
+    (&[(276, 186)], "refused: a/C.class code 1 0\n"),
+    (&[(276, 202)], "refused: a/C.class code 1 0\n"),
+    // The first of two.
+    (
+        &[(7, 50), (10, 2), (276, 186)],
+        "refused: a/C.class version 50\n",
+    ),
+];
+
 #[test]
 fn faults_of_class_files(rt: HostRuntime) -> Result<(), Fail> {
-    let cases: [Case<'_>; 17] = [
-        (&[(0, 0)], "refused: a/C.class magic\n"),
-        (&[(7, 45)], "refused: a/C.class version 45\n"),
-        (&[(6, 1), (7, 0)], "refused: a/C.class version 256\n"),
-        // The tag of an entry, and the index in one.
-        (&[(10, 2)], "refused: a/C.class pool-tag 1 2\n"),
-        (&[(200, 19)], "refused: a/C.class pool-tag 23 19\n"),
-        (&[(16, 2)], "refused: a/C.class pool-ref 2\n"),
-        (&[(199, 20)], "refused: a/C.class pool-ref 22\n"),
-        // The superclass, and the name of a method.
-        (&[(212, 3)], "refused: a/C.class pool-ref 3\n"),
-        (&[(222, 8)], "refused: a/C.class pool-ref 8\n"),
-        // A byte of a text.
-        (&[(13, 0)], "refused: a/C.class utf8 1\n"),
-        // The length of a Code, and that of its code.
-        (&[(232, 20)], "refused: a/C.class attribute-length 229\n"),
-        (&[(232, 22)], "refused: a/C.class attribute-length 229\n"),
-        (&[(240, 10)], "refused: a/C.class attribute-length 229\n"),
-        // An opcode, a cut instruction, and a place where the code would run out.
-        (&[(241, 186)], "refused: a/C.class code 0 0\n"),
-        (&[(249, 184)], "refused: a/C.class code 0 8\n"),
-        (&[(276, 186)], "refused: a/C.class code 1 0\n"),
-        // The first of two.
-        (
-            &[(7, 50), (10, 2), (276, 186)],
-            "refused: a/C.class version 50\n",
-        ),
-    ];
-    for case in cases {
+    for case in CLASS_FAULTS {
         assert!(rt; names_fault(rt.alloc(), case)?, "{}", case.1);
     }
     Ok(())
@@ -113,30 +121,32 @@ fn each_changed_byte_is_answered(rt: HostRuntime) -> Result<(), Fail> {
     Ok(())
 }
 
+/// Classes with a fault beside the library.
+const WORLD_FAULTS: [Case<'static>; 5] = [
+    // A class that extends itself.
+    (&[(212, 2)], "refused: C circle\n"),
+    // `ajc$` in the name of a method, of a class that is named, of a member and in a descriptor.
+    (
+        &[(203, b'a'), (204, b'j'), (205, b'c'), (206, b'$')],
+        "refused: C reserved\n",
+    ),
+    (
+        &[(77, b'a'), (78, b'j'), (79, b'c'), (80, b'$')],
+        "refused: C reserved\n",
+    ),
+    (
+        &[(105, b'a'), (106, b'j'), (107, b'c'), (108, b'$')],
+        "refused: C reserved\n",
+    ),
+    (
+        &[(49, b'a'), (50, b'j'), (51, b'c'), (52, b'$')],
+        "refused: C reserved\n",
+    ),
+];
+
 #[test]
 fn faults_of_one_class(rt: HostRuntime) -> Result<(), Fail> {
-    let cases: [Case<'_>; 5] = [
-        // A class that extends itself.
-        (&[(212, 2)], "refused: C circle\n"),
-        // `ajc$` in the name of a method, of a class that is named, of a member and in a descriptor.
-        (
-            &[(203, b'a'), (204, b'j'), (205, b'c'), (206, b'$')],
-            "refused: C reserved\n",
-        ),
-        (
-            &[(77, b'a'), (78, b'j'), (79, b'c'), (80, b'$')],
-            "refused: C reserved\n",
-        ),
-        (
-            &[(105, b'a'), (106, b'j'), (107, b'c'), (108, b'$')],
-            "refused: C reserved\n",
-        ),
-        (
-            &[(49, b'a'), (50, b'j'), (51, b'c'), (52, b'$')],
-            "refused: C reserved\n",
-        ),
-    ];
-    for case in cases {
+    for case in WORLD_FAULTS {
         assert!(rt; names_fault(rt.alloc(), case)?, "{}", case.1);
     }
     // java.lang.System as an interface.

@@ -81,3 +81,13 @@ pub(crate) fn holds(left: &Outcome, name: &str, bytes: &[u8]) -> bool {
         Some(found) => found == bytes,
     }
 }
+
+/// Whether the run succeeded and printed nothing, and left the shelf with so many files, among them these.
+pub(crate) fn leaves(left: &Outcome, count: usize, files: &[(&str, &[u8])]) -> bool {
+    for (name, bytes) in files {
+        if !holds(left, name, bytes) {
+            return false;
+        }
+    }
+    left.status == 0 && left.printed.bytes().is_empty() && left.shelf.len() == count
+}

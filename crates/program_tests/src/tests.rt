@@ -1,5 +1,5 @@
 use crate::classes::{ASPECT, C, C_WOVEN, D, SEVERAL, SEVERAL_WOVEN, T};
-use crate::runs::{holds, run, weave};
+use crate::runs::{holds, leaves, run, weave};
 use std::alloc::{AllocError, Global};
 use std::test::Fail;
 
@@ -15,14 +15,14 @@ fn first_advice(rt: HostRuntime) -> Result<(), Fail> {
             ("in/notes.txt", b"x"),
         ],
     )?;
-    assert_eq!(rt; left.status, 0);
-    assert_eq!(rt; left.printed.bytes(), b"".as_slice());
-    assert_eq!(rt; left.shelf.len(), 5);
-    assert!(rt; holds(&left, "in/C.class", &C));
-    assert!(rt; holds(&left, "in/T.aj", ASPECT));
-    assert!(rt; holds(&left, "in/notes.txt", b"x"));
-    assert!(rt; holds(&left, "out/C.class", &C_WOVEN));
-    assert!(rt; holds(&left, "out/T.class", &T));
+    let files: [(&str, &[u8]); 5] = [
+        ("in/C.class", &C),
+        ("in/T.aj", ASPECT),
+        ("in/notes.txt", b"x"),
+        ("out/C.class", &C_WOVEN),
+        ("out/T.class", &T),
+    ];
+    assert!(rt; leaves(&left, 5, &files));
     Ok(())
 }
 
@@ -50,65 +50,78 @@ fn calls_and_untouched_classes(rt: HostRuntime) -> Result<(), Fail> {
     assert!(rt; weaves(alloc, &SEVERAL, ASPECT, "o/p/C.class", &SEVERAL_WOVEN)?);
     assert!(rt; weaves(alloc, &C, OTHER, "o/p/C.class", &C)?);
     assert!(rt; weaves(alloc, &D, ASPECT, "o/p/D.class", &D)?);
-    let left = weave(alloc, &[])?;
-    assert_eq!(rt; left.status, 0);
-    assert_eq!(rt; left.shelf.len(), 0);
+    assert!(rt; leaves(&weave(alloc, &[])?, 0, &[]));
     Ok(())
 }
+
+/// What a run comes to where this call fails: its status, how many files there are, and whether the class
+/// was written.
+fn failing(alloc: Global, call: u64) -> Result<(u8, usize, bool), AllocError> {
+    let named: [(&str, &[u8]); 2] = [("in/C.class", &C), ("in/T.aj", ASPECT)];
+    let left = run(alloc, &["weave", "in", "out"], &named, &[call], &[])?;
+    let written = left.shelf.file("out/C.class").is_some();
+    Ok((left.status, left.shelf.len(), written))
+}
+
+/// The list, two reads and two writes, each failing in turn; a sixth call is never made.
+const FAILING: [(u64, (u8, usize, bool)); 6] = [
+    (1, (3, 2, false)),
+    (2, (3, 2, false)),
+    (3, (3, 2, false)),
+    (4, (4, 2, false)),
+    (5, (4, 3, true)),
+    (6, (0, 4, true)),
+];
 
 #[test]
 fn failing_outside(rt: HostRuntime) -> Result<(), Fail> {
-    let named: [(&str, &[u8]); 2] = [("in/C.class", &C), ("in/T.aj", ASPECT)];
-    // The list, two reads and two writes, each failing in turn; a sixth call is never made.
-    for (call, status, held) in [
-        (1, 3, 2),
-        (2, 3, 2),
-        (3, 3, 2),
-        (4, 4, 2),
-        (5, 4, 3),
-        (6, 0, 4),
-    ] {
-        let left = run(rt.alloc(), &["weave", "in", "out"], &named, &[call], &[])?;
-        assert_eq!(rt; left.status, status, "call {call}");
-        assert_eq!(rt; left.shelf.len(), held, "call {call}");
-        assert_eq!(rt;
-            left.shelf.file("out/C.class").is_some(),
-            held > 2,
-            "call {call}"
-        );
-        assert_eq!(rt; left.printed.bytes(), b"".as_slice());
+    for (call, wanted) in FAILING {
+        assert!(rt; failing(rt.alloc(), call)? == wanted, "call {call}");
     }
-    let left = run(
-        rt.alloc(),
-        &["weave", "in", "out"],
-        &[("in/C.class", b"none")],
-        &[],
-        &[1],
-    )?;
-    assert_eq!(rt; left.status, 5);
     Ok(())
 }
 
 #[test]
+fn failing_prints(rt: HostRuntime) -> Result<(), Fail> {
+    for texts in [["weave", "in", "out"].as_slice(), &[]] {
+        let left = run(rt.alloc(), texts, &[("in/C.class", b"none")], &[], &[1])?;
+        assert!(rt; left.status == 5);
+    }
+    Ok(())
+}
+
+/// Words that are no command.
+const NO_COMMANDS: [&[&str]; 9] = [
+    &[],
+    &["weave"],
+    &["weave", "in"],
+    &["weave", "in", "out", "x"],
+    &["weave", "", "out"],
+    &["weave", "in", "-o"],
+    &["Weave", "in", "out"],
+    &["--help"],
+    &["run", "in", "C.main()", "06"],
+];
+
+const USAGE: &[u8] =
+    b"usage: ajweave weave IN OUT | check IN | shadows IN | run IN ENTRY STEPS [SCRIPT] | sample SEED CLASSES\n";
+
+#[test]
 fn usage(rt: HostRuntime) -> Result<(), Fail> {
-    let cases: [&[&str]; 8] = [
-        &[],
-        &["weave"],
-        &["weave", "in"],
-        &["weave", "in", "out", "x"],
-        &["weave", "", "out"],
-        &["weave", "in", "-o"],
-        &["--help"],
-        &["run", "in", "C.main()", "06"],
-    ];
-    for texts in cases {
+    for texts in NO_COMMANDS {
         let left = run(rt.alloc(), texts, &[("in/C.class", &C)], &[], &[])?;
         assert_eq!(rt; left.status, 2);
-        assert_eq!(rt;
-            left.printed.bytes(),
-            b"usage: ajweave weave IN OUT | check IN | shadows IN | run IN ENTRY STEPS [SCRIPT] | sample SEED CLASSES\n".as_slice()
-        );
+        assert_eq!(rt; left.printed.bytes(), USAGE);
         assert_eq!(rt; left.shelf.len(), 1);
+    }
+    Ok(())
+}
+
+#[test]
+fn other_files_are_passed_over(rt: HostRuntime) -> Result<(), Fail> {
+    for name in ["in/x.txt", "C.class"] {
+        let left = weave(rt.alloc(), &[(name, b"none")])?;
+        assert!(rt; leaves(&left, 1, &[(name, b"none")]), "{name}");
     }
     Ok(())
 }
@@ -123,12 +136,12 @@ fn classes_without_an_aspect(rt: HostRuntime) -> Result<(), Fail> {
         rt.alloc(),
         &[("in/C.class", &C), ("in/a/D.class", &D), ("in/b.class", &e)],
     )?;
-    assert_eq!(rt; left.status, 0);
-    assert_eq!(rt; left.printed.bytes(), b"".as_slice());
-    assert_eq!(rt; left.shelf.len(), 6);
-    assert!(rt; holds(&left, "out/C.class", &C));
-    assert!(rt; holds(&left, "out/D.class", &D));
-    assert!(rt; holds(&left, "out/E.class", &e));
+    let files: [(&str, &[u8]); 3] = [
+        ("out/C.class", &C),
+        ("out/D.class", &D),
+        ("out/E.class", &e),
+    ];
+    assert!(rt; leaves(&left, 6, &files));
     Ok(())
 }
 
@@ -138,11 +151,12 @@ fn several_classes_under_an_aspect(rt: HostRuntime) -> Result<(), Fail> {
         rt.alloc(),
         &[("in/C.class", &C), ("in/D.class", &D), ("in/T.aj", ASPECT)],
     )?;
-    assert_eq!(rt; left.status, 0);
-    assert_eq!(rt; left.shelf.len(), 6);
-    assert!(rt; holds(&left, "out/C.class", &C_WOVEN));
-    assert!(rt; holds(&left, "out/D.class", &D));
-    assert!(rt; holds(&left, "out/T.class", &T));
+    let files: [(&str, &[u8]); 3] = [
+        ("out/C.class", &C_WOVEN),
+        ("out/D.class", &D),
+        ("out/T.class", &T),
+    ];
+    assert!(rt; leaves(&left, 6, &files));
     Ok(())
 }
 
@@ -155,8 +169,7 @@ fn a_name_past_the_basic_plane(rt: HostRuntime) -> Result<(), Fail> {
     class.extend_from_slice(&FACE)?;
     class.extend_from_slice(&C[14..])?;
     let left = weave(rt.alloc(), &[("in/x.class", class.as_slice())])?;
-    assert_eq!(rt; left.status, 0);
-    assert_eq!(rt; left.shelf.len(), 2);
-    assert!(rt; holds(&left, "out/\u{1F600}.class", class.as_slice()));
+    let name = "out/\u{1F600}.class";
+    assert!(rt; leaves(&left, 2, &[(name, class.as_slice())]));
     Ok(())
 }
