@@ -1,5 +1,5 @@
 -- The fields that are found, one by one.
-use Rattle.std.proofs.Common.{◌≡◌, ◌≢◌, ℕ, zero, suc, ◌<◌, ◌≤◌, Bool, false, not, List, [], ◌∷◌, ◌++◌, length, get_or, refl, sym, ap, subst, ◌∙◌, arith, inl, inr, append_assoc}
+use Rattle.std.proofs.Common.{◌≡◌, ◌≢◌, ℕ, zero, suc, ◌<◌, ◌≤◌, Bool, true, false, not, List, [], ◌∷◌, ◌++◌, length, get_or, refl, sym, ap, subst, ◌∙◌, arith, inl, inr, append_assoc}
 use Rattle.std.specs.Prelude.{if◌then◌else◌}
 use Rattle.std.proofs.lemmas.Bool.{cases_Bool, ne_eqb, eq-eqb}
 use Rattle.std.proofs.lemmas.List.{append-nil}
@@ -31,6 +31,10 @@ begins_inside b rest h =
           let e : length (behind_run is_blank rest) ≡ length (b ∷ rest) = ap (λ (t : Bool). length (if t then behind_run is_blank rest else b ∷ rest)) (sym is_so) ∙ ap length h in
           absurd (omega (arith, e, behind_le is_blank rest))
     ]
+
+-- a byte above the space stands inside a word
+pub inside_above : (b : ℕ) → 32 < b → is_inside b ≡ true
+inside_above b lt = rw (ne_eqb b 32 (λ e. omega arith), ne_eqb b 9 (λ e. omega arith), ne_eqb b 10 (λ e. omega arith)) refl
 
 -- the fields of the line are those that were found, and those of the rest, which begins with no blank
 pub record Found (line rest : List ℕ) (found : List (List ℕ)) : Type 0 where

@@ -8,9 +8,17 @@ pub mod CodeLists
 pub mod CaseLists
 pub mod Spaced
 pub mod NumbersRead
+pub mod Fronts
+pub mod Decoded
+pub mod UnitLists
 pub mod TextRead
+pub mod Back
+pub mod Descriptors
 pub mod HeadsRead
 pub mod OperationsRead
 pub mod LinesRead
 pub mod FormRead
 pub mod LineForms
+pub mod LineParts
+pub mod TextLines
+pub mod WordKinds

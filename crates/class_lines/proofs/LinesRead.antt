@@ -31,7 +31,7 @@ use Rattle.class_lines.proofs.OperationsRead.{within_of, operand_words, no_keywo
 
 -- ---- plain words
 
-inside_of : (w : Text) → is_plain w ≡ true → list_all is_inside w ≡ true
+pub inside_of : (w : Text) → is_plain w ≡ true → list_all is_inside w ≡ true
 inside_of [] h = absurd (false≢true h)
 inside_of (b ∷ w) h = (and_parts (not (b == 34)) (list_all is_inside (b ∷ w)) h).1
 
@@ -74,7 +74,7 @@ fields_default words default plain label =
     let is : all_plain last ≡ true = rw (fits_plain WordKind.Label default label) refl in
     fields_all words (default_text default) plain refl ∙ ap (λ (l : List Text). words ++ l) (fields_all_end last is)
 
-either_of : (a b : Bool) → (a || b) ≡ true → (a ≡ true) ⊎ (b ≡ true)
+pub either_of : (a b : Bool) → (a || b) ≡ true → (a ≡ true) ⊎ (b ≡ true)
 either_of true b h = inl refl
 either_of false b h = inr h
 

@@ -12,6 +12,7 @@ use Rattle.class_lines.specs.Fields.{is_inside}
 use Rattle.class_lines.specs.Words.{Text, is_plain}
 use Rattle.class_lines.specs.Numbers.{is_digit, number, natural, integer}
 use Rattle.class_lines.specs.Operations.{is_key_byte}
+use Rattle.class_lines.proofs.FieldLists.{inside_above}
 
 digits_pass : (ds : Text) → AllDigits 10 ds → list_all (is_digit 10) ds ≡ true
 digits_pass [] h = refl
@@ -34,7 +35,7 @@ inside_digits : (ds : Text) → AllDigits 10 ds → list_all is_inside ds ≡ tr
 inside_digits [] h = refl
 inside_digits (d ∷ ds) h =
     let range = digit_from_value d h.0 in
-    let inside : is_inside d ≡ true = ap not (ne_eqb d 32 (λ e. omega (arith, e, range.0, range.1))) in
+    let inside : is_inside d ≡ true = inside_above d (omega (arith, range.0)) in
     and_from (is_inside d) (list_all is_inside ds) inside (inside_digits ds h.1)
 
 plain_digits : (ds : Text) → 0 < length ds → AllDigits 10 ds → is_plain ds ≡ true

@@ -142,6 +142,7 @@ operand_words (Operation.LookupSwitch cases default) = map case_text cases ++ co
 
 -- a mnemonic and its operands are read as an instruction
 pub record Reads (op : ℕ) (words : List Text) (o : Operation) : Type 0 where
+  pub lt : op < 202
   pub mnemonic : is_mnemonic (mnemonic_of op) ≡ true
   pub read : operation_at (mnemonic_of op ∷ words) ≡ Some o
 
@@ -150,7 +151,7 @@ unfolding operation_at
 read_by op form words o lt is h = rw (mnemonic_found op form lt is, is) h
 
 from : (op : ℕ) (form : Form) (words : List Text) (o : Operation) → op < 202 → form_of op ≡ Some form → by_form op form words ≡ Some o → Reads op words o
-from op form words o lt is h = record { mnemonic = (and_parts _ _ (found op form lt is)).1; read = read_by op form words o lt is h }
+from op form words o lt is h = record { lt = lt; mnemonic = (and_parts _ _ (found op form lt is)).1; read = read_by op form words o lt is h }
 
 -- the opcode and the form
 pub record Formed (op : ℕ) (test : Form → Bool) : Type 0 where

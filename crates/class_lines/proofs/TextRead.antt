@@ -1,21 +1,28 @@
 -- Hexadecimal numbers and texts in quotes that are printed are read again.
-use Rattle.std.proofs.Common.{◌≡◌, ℕ, zero, suc, ◌*◌, ◌/◌, ◌%◌, ◌-◌, ◌<◌, ◌≤◌, Bool, true, false, not, ◌&&◌, [], ◌∷◌, ◌++◌, length, take, get_or, Option, Some, None, refl, sym, ap, subst, ◌∙◌, arith, inl, inr, length-append}
-use Rattle.std.specs.Prelude.{if◌then◌else◌, ◌==◌, ◌||◌, nat_le, option_map, codes}
+use Rattle.std.proofs.Common.{◌≡◌, ℕ, zero, suc, ◌+◌, ◌*◌, ◌/◌, ◌%◌, ◌-◌, ◌<◌, ◌≤◌, Bool, true, false, ◌&&◌, List, [], ◌∷◌, ◌++◌, length, take, drop, get_or, Option, Some, None, refl, sym, ap, subst, ◌∙◌, arith, inl, inr, length-append}
+use Rattle.std.specs.Prelude.{if◌then◌else◌, ◌==◌, nat_le, nat_lt, option_map, codes}
 use Rattle.std.specs.List.{list_all, flat_map}
 use Rattle.std.specs.Char.{digit_value}
 use Rattle.std.specs.Str.Parse.{digits_value}
-use Rattle.std.proofs.lemmas.Bool.{lt-ltb, le-leb, and_from, ne_eqb, eq-eqb, cases_eq}
+use Rattle.std.proofs.lemmas.Bool.{lt-ltb, le-leb, ltb-true, leb-true, and_parts, and_from, ne_eqb, eq-eqb, cases_eq, cases_Bool}
 use Rattle.std.proofs.lemmas.List.Folds.{list_all-append}
 use Rattle.std.proofs.lemmas.Str.{digit_value-digit_char}
 use Rattle.std.proofs.lemmas.Int.Digits.{digits_value_push}
-use Rattle.std.proofs.Math.Seq.{take-append_seam, get_or-append_seam}
+use Rattle.std.proofs.Math.Seq.{take-append_seam, drop-append_seam, get_or-append_seam}
+use Rattle.aj_names.specs.ModifiedUtf8.{unit_spelling}
+use Rattle.class_file.specs.Text.{within, begun, utf8_from, is_utf8}
 use Rattle.class_lines.specs.declared.quotes.Piece.{Piece}
 use Rattle.class_lines.specs.Fields.{is_inside, fields}
 use Rattle.class_lines.specs.Words.{◌>>=◌, Text}
 use Rattle.class_lines.specs.Numbers.{is_digit, number, hexadecimal}
-use Rattle.class_lines.specs.Quotes.{piece_bytes, piece_at, escape_at, pieces, unescaped, inside_quotes, is_text, quoted}
+use Rattle.class_lines.specs.Quotes.{piece_bytes, with_unit, piece_at, escape_at, pieces, unescaped, inside_quotes, is_text, quoted}
+use Rattle.class_lines.specs.Units.{unit_of_two, unit_of_three, units_of}
 use Rattle.class_lines.specs.Printing.{spaced, hex_digit, hex_digits, escape, quote}
 use Rattle.class_lines.proofs.Trimmed.{trimmed_other}
+use Rattle.class_lines.proofs.FieldLists.{inside_above}
+use Rattle.class_lines.proofs.UnitLists.{not_below, units_small, units_two, units_three}
+use Rattle.class_lines.proofs.Fronts.{Begun, begins, Next, never, last, null_of, second_of, two_of}
+use Rattle.class_lines.proofs.Fronts.Begun.{Alone, Null, Last, Second, More, Nothing}
 use Rattle.class_lines.proofs.Spaced.{fields_blank}
 
 -- ---- base 16
@@ -72,8 +79,15 @@ hexadecimal_hex count most n some lt le =
     ∙ ap (λ (v : ℕ). if nat_le v most then Some v else None) (value_hex count n lt)
     ∙ ap (λ (t : Bool). if t then Some n else None) (le-leb n most le)
 
+-- a digit is one of 0 to 9 and a to f
+pub hex_range : (d : ℕ) → d < 16 → (48 ≤ hex_digit d) × (hex_digit d < 103)
+hex_range d lt = elim (cases_Bool (nat_lt d 10)) [
+  | inl low ↦ let n = ltb-true d 10 low in rw low (omega arith, omega arith)
+  | inr high ↦ rw high (omega arith, omega arith)
+]
+
 inside_hex_digit : (d : ℕ) → d < 16 → is_inside (hex_digit d) ≡ true
-inside_hex_digit d lt = ap not (ne_eqb (hex_digit d) 32 (λ e. let v = digit_of d lt in let w : digit_value (hex_digit d) ≡ 36 = ap digit_value e in omega (arith, v, w)))
+inside_hex_digit d lt = let r = hex_range d lt in inside_above (hex_digit d) (omega (arith, r.0))
 
 pub inside_hex : (count n : ℕ) → list_all is_inside (hex_digits count n) ≡ true
 unfolding hex_digits
@@ -94,10 +108,6 @@ escaped_line_feed : (rest : Text) → piece_at (92 ∷ 110 ∷ rest) ≡ Some (P
 unfolding piece_at escape_at
 escaped_line_feed rest = refl
 
-escaped_return : (rest : Text) → piece_at (92 ∷ 114 ∷ rest) ≡ Some (Piece.Unit 13, rest)
-unfolding piece_at escape_at
-escaped_return rest = refl
-
 escaped_quote : (rest : Text) → piece_at (92 ∷ 34 ∷ rest) ≡ Some (Piece.Unit 34, rest)
 unfolding piece_at escape_at
 escaped_quote rest = refl
@@ -106,56 +116,136 @@ escaped_backslash : (rest : Text) → piece_at (92 ∷ 92 ∷ rest) ≡ Some (Pi
 unfolding piece_at escape_at
 escaped_backslash rest = refl
 
+escaped_unit : (u : ℕ) (rest : Text) → u < 65536 → piece_at (92 ∷ 117 ∷ hex_digits 4 u ++ rest) ≡ Some (Piece.Unit u, rest)
+unfolding piece_at escape_at
+escaped_unit u rest lt =
+    let ds : Text = hex_digits 4 u in
+    let front : take 4 (ds ++ rest) ≡ ds = ap (λ (n : ℕ). take n (ds ++ rest)) (sym (length_hex 4 u)) ∙ take-append_seam ds rest in
+    let back : drop 4 (ds ++ rest) ≡ rest = ap (λ (n : ℕ). drop n (ds ++ rest)) (sym (length_hex 4 u)) ∙ drop-append_seam ds rest in
+    ap (λ (l : Text). with_unit l (hexadecimal 4 0xFFFF (take 4 (ds ++ rest)))) back
+    ∙ ap (λ (l : Text). with_unit rest (hexadecimal 4 0xFFFF l)) front
+    ∙ ap (with_unit rest) (hexadecimal_hex 4 0xFFFF u (omega arith) (omega arith) (omega arith))
+
 itself : (b : ℕ) (rest : Text) → b == 92 ≡ false → b == 34 ≡ false → piece_at (b ∷ rest) ≡ Some (Piece.Byte b, rest)
 unfolding piece_at
 itself b rest back quote =
     ap (λ (t : Bool). if t then escape_at rest else (if b == 34 then None else Some (Piece.Byte b, rest))) back
     ∙ ap (λ (t : Bool). if t then None else Some (Piece.Byte b, rest)) quote
 
--- what an escaped byte is read as
-two : (turns x b : ℕ) (rest text : Text) → length (92 ∷ x ∷ rest) ≤ turns → piece_at (92 ∷ x ∷ rest) ≡ Some (Piece.Unit b, rest) → piece_bytes (Piece.Unit b) ≡ b ∷ [] → ((t : ℕ) → length rest ≤ t → pieces t rest ≡ Some text)
-    → pieces turns (92 ∷ x ∷ rest) ≡ Some (b ∷ text)
-two zero x b rest text le here is more = absurd (omega arith)
-two (suc turns) x b rest text le here is more =
-    piece_step turns 92 (x ∷ rest) text (Piece.Unit b, rest) here (more turns (omega arith)) ∙ ap (λ (bytes : Text). Some (bytes ++ text)) is
+-- what is read from a text, by as many turns as it has bytes
+abbrev Reads : Text → Text → Type 0
+Reads written text = (turns : ℕ) → length written ≤ turns → pieces turns written ≡ Some text
 
-one : (turns b : ℕ) (rest text : Text) → length (b ∷ rest) ≤ turns → b == 92 ≡ false → b == 34 ≡ false → ((t : ℕ) → length rest ≤ t → pieces t rest ≡ Some text) → pieces turns (b ∷ rest) ≡ Some (b ∷ text)
-one zero b rest text le back quote more = absurd (omega arith)
-one (suc turns) b rest text le back quote more = piece_step turns b rest text (Piece.Byte b, rest) (itself b rest back quote) (more turns (omega arith))
+-- one piece more
+one_piece : (x : ℕ) (front rest text bytes : Text) (p : Piece) → piece_at (x ∷ front ++ rest) ≡ Some (p, rest) → piece_bytes p ≡ bytes → Reads rest text → Reads (x ∷ front ++ rest) (bytes ++ text)
+one_piece x front rest text bytes p here is more zero le = absurd (omega arith)
+one_piece x front rest text bytes p here is more (suc turns) le =
+    piece_step turns x (front ++ rest) text (p, rest) here (more turns (omega (arith, length-append front rest))) ∙ ap (λ (b : Text). Some (b ++ text)) is
 
-escape_is : (b : ℕ) (rest : Text) (x y z w : Bool) → b == 10 ≡ x → b == 13 ≡ y → b == 34 ≡ z → b == 92 ≡ w
-    → escape b ++ rest ≡ (if x then codes "\\n" else (if y then codes "\\r" else (if z || w then 92 ∷ b ∷ [] else b ∷ []))) ++ rest
-escape_is b rest x y z w ex ey ez ew =
-    ap (λ (t : Bool). (if t then codes "\\n" else (if b == 13 then codes "\\r" else (if b == 34 || b == 92 then 92 ∷ b ∷ [] else b ∷ []))) ++ rest) ex
-    ∙ ap (λ (t : Bool). (if x then codes "\\n" else (if t then codes "\\r" else (if b == 34 || b == 92 then 92 ∷ b ∷ [] else b ∷ []))) ++ rest) ey
-    ∙ ap (λ (t : Bool). (if x then codes "\\n" else (if y then codes "\\r" else (if t || b == 92 then 92 ∷ b ∷ [] else b ∷ []))) ++ rest) ez
-    ∙ ap (λ (t : Bool). (if x then codes "\\n" else (if y then codes "\\r" else (if z || t then 92 ∷ b ∷ [] else b ∷ []))) ++ rest) ew
-
-pub pieces_read : (text : Text) (turns : ℕ) → length (flat_map escape text) ≤ turns → pieces turns (flat_map escape text) ≡ Some text
-pieces_read [] zero le = refl
-pieces_read [] (suc turns) le = refl
-pieces_read (b ∷ text) turns le =
-    let rest : Text = flat_map escape text in
-    let more : (t : ℕ) → length rest ≤ t → pieces t rest ≡ Some text = pieces_read text in
-    by_cases b rest text turns le more
-  where
-    by_cases : (b : ℕ) (rest text : Text) (turns : ℕ) → length (escape b ++ rest) ≤ turns → ((t : ℕ) → length rest ≤ t → pieces t rest ≡ Some text) → pieces turns (escape b ++ rest) ≡ Some (b ∷ text)
-    by_cases b rest text turns le more =
-        elim (cases_eq b 10) [
-          | inl e ↦ subst (λ (c : ℕ). length (escape c ++ rest) ≤ turns → pieces turns (escape c ++ rest) ≡ Some (c ∷ text)) (sym e) (λ le. two turns 110 10 rest text le (escaped_line_feed rest) refl more) le
-          | inr n1 ↦ elim (cases_eq b 13) [
-            | inl e ↦ subst (λ (c : ℕ). length (escape c ++ rest) ≤ turns → pieces turns (escape c ++ rest) ≡ Some (c ∷ text)) (sym e) (λ le. two turns 114 13 rest text le (escaped_return rest) refl more) le
-            | inr n2 ↦ elim (cases_eq b 34) [
-              | inl e ↦ subst (λ (c : ℕ). length (escape c ++ rest) ≤ turns → pieces turns (escape c ++ rest) ≡ Some (c ∷ text)) (sym e) (λ le. two turns 34 34 rest text le (escaped_quote rest) refl more) le
-              | inr n3 ↦ elim (cases_eq b 92) [
-                | inl e ↦ subst (λ (c : ℕ). length (escape c ++ rest) ≤ turns → pieces turns (escape c ++ rest) ≡ Some (c ∷ text)) (sym e) (λ le. two turns 92 92 rest text le (escaped_backslash rest) refl more) le
-                | inr n4 ↦
-                    let is = escape_is b rest false false false false (ne_eqb b 10 n1) (ne_eqb b 13 n2) (ne_eqb b 34 n3) (ne_eqb b 92 n4) in
-                    ap (pieces turns) is ∙ one turns b rest text (subst (λ (l : Text). length l ≤ turns) is le) (ne_eqb b 92 n4) (ne_eqb b 34 n3) more
+-- a unit that is written is read as its bytes
+unit_reads : (u : ℕ) (rest text : Text) → u < 65536 → Reads rest text → Reads (escape u ++ rest) (unit_spelling u ++ text)
+unit_reads u rest text lt more =
+    let Goal : ℕ → Type 0 = λ v. Reads (escape v ++ rest) (unit_spelling v ++ text) in
+    elim (cases_eq u 34) [
+      | inl e ↦ subst Goal (sym e) (one_piece 92 (34 ∷ []) rest text (34 ∷ []) (Piece.Unit 34) (escaped_quote rest) refl more)
+      | inr n1 ↦ elim (cases_eq u 92) [
+        | inl e ↦ subst Goal (sym e) (one_piece 92 (92 ∷ []) rest text (92 ∷ []) (Piece.Unit 92) (escaped_backslash rest) refl more)
+        | inr n2 ↦ elim (cases_eq u 10) [
+          | inl e ↦ subst Goal (sym e) (one_piece 92 (110 ∷ []) rest text (10 ∷ []) (Piece.Unit 10) (escaped_line_feed rest) refl more)
+          | inr n3 ↦
+              let other : escape u ≡ (if within 32 127 u then u ∷ [] else codes "\\u" ++ hex_digits 4 u) = rw (ne_eqb u 34 n1, ne_eqb u 92 n2, ne_eqb u 10 n3) refl in
+              elim (cases_Bool (within 32 127 u)) [
+                | inl plain ↦
+                    let r = and_parts (nat_le 32 u) (nat_lt u 127) plain in
+                    let low = leb-true 32 u r.0 in let high = ltb-true u 127 r.1 in
+                    let is : u ∷ [] ≡ unit_spelling u = rw (lt-ltb 0 u (omega arith), lt-ltb u 128 (omega arith)) refl in
+                    let bare : escape u ≡ u ∷ [] = other ∙ ap (λ (t : Bool). if t then u ∷ [] else codes "\\u" ++ hex_digits 4 u) plain in
+                    subst (λ (l : Text). Reads (l ++ rest) (unit_spelling u ++ text)) (sym bare) (one_piece u [] rest text (unit_spelling u) (Piece.Byte u) (itself u rest (ne_eqb u 92 n2) (ne_eqb u 34 n1)) is more)
+                | inr far ↦
+                    let digits : escape u ≡ codes "\\u" ++ hex_digits 4 u = other ∙ ap (λ (t : Bool). if t then u ∷ [] else codes "\\u" ++ hex_digits 4 u) far in
+                    subst (λ (l : Text). Reads (l ++ rest) (unit_spelling u ++ text)) (sym digits) (one_piece 92 (117 ∷ hex_digits 4 u) rest text (unit_spelling u) (Piece.Unit u) (escaped_unit u rest lt) refl more)
               ]
-            ]
-          ]
         ]
+      ]
+    ]
+
+-- the text is read from its units
+abbrev ReadsText : Text → Type 0
+ReadsText text = Reads (flat_map escape (units_of text)) text
+
+front_reads : (u : ℕ) (bytes rest text : Text) → text ≡ bytes ++ rest → units_of (bytes ++ rest) ≡ u ∷ units_of rest → unit_spelling u ≡ bytes → u < 65536 → ReadsText rest → ReadsText text
+front_reads u bytes rest text is units spelled lt more =
+    let here : Reads (escape u ++ flat_map escape (units_of rest)) (unit_spelling u ++ rest) = unit_reads u (flat_map escape (units_of rest)) rest lt more in
+    subst ReadsText (sym is)
+    (subst (λ (l : List ℕ). Reads (flat_map escape l) (bytes ++ rest)) (sym units) (subst (λ (b : Text). Reads (flat_map escape (u ∷ units_of rest)) (b ++ rest)) spelled here))
+
+one_spelled : (a : ℕ) → 1 ≤ a → a < 128 → unit_spelling a ≡ a ∷ []
+one_spelled a some small = rw (lt-ltb 0 a some, lt-ltb a 128 small) refl
+
+two_spelled : (a b : ℕ) → 194 ≤ a → a < 224 → 128 ≤ b → b < 192 → unit_spelling (unit_of_two a b) ≡ a ∷ b ∷ []
+two_spelled a b la ha lb hb =
+    let u : ℕ = unit_of_two a b in
+    let is : u ≡ (a - 192) * 64 + (b - 128) = omega arith in
+    let first : 192 + u / 64 ≡ a = omega (arith, is) in
+    let second : 128 + u % 64 ≡ b = omega (arith, is) in
+    let high : 128 ≤ u = omega (arith, is) in
+    rw (lt-ltb 0 u (omega (arith, high)), not_below u 128 high)
+    (ap (λ (t : Bool). if t then (192 + u / 64) ∷ (128 + u % 64) ∷ [] else (224 + u / 4096) ∷ (128 + u / 64 % 64) ∷ (128 + u % 64) ∷ []) (lt-ltb u 2048 (omega (arith, is)))
+    ∙ ap (λ (x : ℕ). x ∷ (128 + u % 64) ∷ []) first ∙ ap (λ (x : ℕ). a ∷ x ∷ []) second)
+
+pub three_spelled : (a b c : ℕ) → 224 ≤ a → a < 240 → 128 ≤ b → b < 192 → (a ≡ 224 → 160 ≤ b) → 128 ≤ c → c < 192 → unit_spelling (unit_of_three a b c) ≡ a ∷ b ∷ c ∷ []
+three_spelled a b c la ha lb hb least lc hc =
+    let u : ℕ = unit_of_three a b c in
+    let is : u ≡ (a - 224) * 4096 + (b - 128) * 64 + (c - 128) = omega arith in
+    let large : 2048 ≤ u = elim (cases_eq a 224) [ inl e ↦ let m = least e in omega (arith, is, m) | inr ne ↦ omega (arith, is, ne) ] in
+    let first : 224 + u / 4096 ≡ a = omega (arith, is) in
+    let second : 128 + u / 64 % 64 ≡ b = omega (arith, is) in
+    let third : 128 + u % 64 ≡ c = omega (arith, is) in
+    rw (lt-ltb 0 u (omega (arith, large)), not_below u 128 (omega (arith, large)))
+    (ap (λ (t : Bool). if t then (192 + u / 64) ∷ (128 + u % 64) ∷ [] else (224 + u / 4096) ∷ (128 + u / 64 % 64) ∷ (128 + u % 64) ∷ []) (not_below u 2048 large)
+    ∙ ap (λ (x : ℕ). x ∷ (128 + u / 64 % 64) ∷ (128 + u % 64) ∷ []) first ∙ ap (λ (x : ℕ). a ∷ x ∷ (128 + u % 64) ∷ []) second ∙ ap (λ (x : ℕ). a ∷ b ∷ x ∷ []) third)
+
+two_small : (a b : ℕ) → unit_of_two a b < 65536
+two_small a b = omega arith
+
+three_small : (a b c : ℕ) → unit_of_three a b c < 65536
+three_small a b c = omega arith
+
+-- the bytes of three
+three_reads : (a low : ℕ) (rest : Text) → 224 ≤ a → a < 240 → 128 ≤ low → (a ≡ 224 → 160 ≤ low) → Next (utf8_from (begun 194)) low 192 rest → ((text : Text) → length text < length rest → is_utf8 text ≡ true → ReadsText text) → ReadsText (a ∷ rest)
+three_reads a low rest la ha above least n next =
+    let m = last n.rest n.after in
+    let b : ℕ = n.byte in let c : ℕ = m.byte in
+    let lb : 128 ≤ b = omega (arith, n.above) in
+    let e : rest ≡ b ∷ c ∷ m.rest = n.is ∙ ap (λ (l : Text). b ∷ l) m.is in
+    front_reads (unit_of_three a b c) (a ∷ b ∷ c ∷ []) m.rest (a ∷ rest) (ap (λ (l : Text). a ∷ l) e) (units_three a b c m.rest la)
+    (three_spelled a b c la ha lb n.below (λ i. let k = least i in omega (arith, n.above, k)) m.above m.below) (three_small a b c) (next m.rest (let l = ap length e in omega (arith, l)) m.after)
+
+text_reads : (n : ℕ) (text : Text) → length text ≤ n → is_utf8 text ≡ true → ReadsText text
+text_reads n [] le h = no_text
+  where
+    no_text : ReadsText []
+    no_text zero le = refl
+    no_text (suc turns) le = refl
+text_reads zero (a ∷ rest) le h = absurd (omega arith)
+text_reads (suc n) (a ∷ rest) le h = by (λ text lt is. text_reads n text (omega arith) is) (begins a)
+  where
+    by : ((text : Text) → length text < length (a ∷ rest) → is_utf8 text ≡ true → ReadsText text) → Begun a → ReadsText (a ∷ rest)
+    by next (Alone e some small) =
+        front_reads a (a ∷ []) rest (a ∷ rest) refl (units_small a rest small) (one_spelled a some small) (omega arith) (next rest (omega arith) (ap (λ x. utf8_from x rest) (sym e) ∙ h))
+    by next (Null e) =
+        let k = null_of rest (subst (λ (x : ℕ). is_utf8 (x ∷ rest) ≡ true) e h) in
+        front_reads 0 (192 ∷ 128 ∷ []) k.0 (a ∷ rest) (ap (λ (x : ℕ). x ∷ rest) e ∙ ap (λ (l : Text). 192 ∷ l) k.1) (units_two 192 128 k.0 (omega arith) (omega arith)) refl (omega arith) (next k.0 (let l = ap length k.1 in omega (arith, l)) k.2)
+    by next (Last e low high) =
+        let k = last rest (ap (λ x. utf8_from x rest) (sym e) ∙ h) in
+        front_reads (unit_of_two a k.byte) (a ∷ k.byte ∷ []) k.rest (a ∷ rest) (ap (λ (l : Text). a ∷ l) k.is) (units_two a k.byte k.rest (omega arith) high) (two_spelled a k.byte low high k.above k.below) (two_small a k.byte) (next k.rest (let l = ap length k.is in omega (arith, l)) k.after)
+    by next (Second e i) = three_reads a 160 rest (omega arith) (omega arith) (omega arith) (λ j. omega arith) (second_of rest (ap (λ x. utf8_from x rest) (sym e) ∙ h)) (λ text lt is. next text (omega arith) is)
+    by next (More e low high) = three_reads a 128 rest (omega arith) high (omega arith) (λ j. absurd (omega arith)) (two_of rest (ap (λ x. utf8_from x rest) (sym e) ∙ h)) (λ text lt is. next text (omega arith) is)
+    by next (Nothing e) = absurd (never rest (ap (λ x. utf8_from x rest) (sym e) ∙ h))
+
+-- what is written is read again
+pub units_read : (text : Text) → is_utf8 text ≡ true → unescaped (flat_map escape (units_of text)) ≡ Some text
+units_read text is = text_reads (length text) text (omega arith) is (length (flat_map escape (units_of text))) (omega arith)
 
 inside_read : (written : Text) → inside_quotes (34 ∷ written ++ 34 ∷ []) ≡ Some written
 unfolding inside_quotes
@@ -167,15 +257,19 @@ inside_read written =
     ∙ ap (λ (t : Bool). if t then Some (take (length written) rest) else None) (eq-eqb (get_or rest (length written) 0) 34 (get_or-append_seam written 34 [] 0))
     ∙ ap Some (take-append_seam written (34 ∷ []))
 
+text_utf8 : (text : Text) → is_text text ≡ true → is_utf8 text ≡ true
+unfolding is_text
+text_utf8 text h = (and_parts (nat_le (length text) 65535) (is_utf8 text) h).1
+
 pub quoted_quote : (text : Text) → is_text text ≡ true → quoted (quote text) ≡ Some text
 unfolding quoted
 quoted_quote text is =
-    let written : Text = flat_map escape text in
+    let written : Text = flat_map escape (units_of text) in
     ap (λ (o : Option Text). o >>= unescaped >>= (λ text. if is_text text then Some text else None)) (inside_read written)
-    ∙ ap (λ (o : Option Text). o >>= (λ text. if is_text text then Some text else None)) (pieces_read text (length written) (omega arith))
+    ∙ ap (λ (o : Option Text). o >>= (λ text. if is_text text then Some text else None)) (units_read text (text_utf8 text is))
     ∙ ap (λ (t : Bool). if t then Some text else None) is
 
 -- a text in quotes is the last field
 pub fields_quote : (text : Text) → fields (spaced (quote text)) ≡ quote text ∷ []
 fields_quote text =
-    fields_blank (quote text) ∙ ap (λ (front : Text). front ∷ []) (trimmed_other (34 ∷ flat_map escape text) 34 refl)
+    fields_blank (quote text) ∙ ap (λ (front : Text). front ∷ []) (trimmed_other (34 ∷ flat_map escape (units_of text)) 34 refl)

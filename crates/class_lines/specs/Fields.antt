@@ -1,9 +1,10 @@
 -- The fields of a line: what stands between its blanks.
-use Rattle.std.specs.Prelude.{◌≡◌, ℕ, zero, suc, ◌==◌, Bool, not, if◌then◌else◌, List, [], ◌∷◌, length, codes, refl}
+use Rattle.std.specs.Prelude.{◌≡◌, ℕ, zero, suc, ◌==◌, Bool, not, ◌||◌, if◌then◌else◌, List, [], ◌∷◌, length, codes, refl}
 use Rattle.std.specs.List.{list_all}
 
+-- a space or a tab; a line feed too, which no line of a text has
 abbrev pub is_blank : ℕ → Bool
-is_blank b = b == 32
+is_blank b = b == 32 || (b == 9 || b == 10)
 
 abbrev pub is_inside : ℕ → Bool
 is_inside b = not (is_blank b)
@@ -46,6 +47,9 @@ plain = refl
 
 quoted : fields (codes "ldc \"a b\"  ") ≡ codes "ldc" ∷ codes "\"a b\"" ∷ []
 quoted = refl
+
+tab : fields (codes "nop\t\t; a") ≡ codes "nop" ∷ codes ";" ∷ codes "a" ∷ []
+tab = refl
 
 empty : fields (codes "   ") ≡ []
 empty = refl

@@ -5,6 +5,9 @@ pub mod Quotes
 pub mod Heads
 pub mod Operations
 pub mod Reading
+pub mod Units
+pub mod Utf8
+pub mod Pairs
 pub mod Printing
 pub mod Lines
 pub mod Recoding

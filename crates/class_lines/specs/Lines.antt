@@ -4,7 +4,7 @@ use Rattle.std.specs.List.{list_all}
 use Rattle.std.specs.Str.{bytes_eq}
 use Rattle.opcode_table.specs.declared.form.Form.{Form}
 use Rattle.opcode_table.specs.Table.{form_of}
-use Rattle.class_file.specs.Text.{within, dimensions}
+use Rattle.class_file.specs.Text.{within, is_utf8, is_paired, dimensions}
 use Rattle.class_lines.specs.declared.line.Line.{Line}
 use Rattle.class_lines.specs.declared.line.MemberHead.{MemberHead}
 use Rattle.class_lines.specs.declared.line.Operation.{Operation}
@@ -110,3 +110,29 @@ is_line (Line.Bare head) = is_head WordKind.MethodDescriptor head && takes_few h
 is_line (Line.Step label operation) = is_label_or_none label && is_operation operation
 is_line (Line.Catch from to handler class) = fits WordKind.Label from && (fits WordKind.Label to && (fits WordKind.Label handler && is_caught class))
 is_line Line.End = true
+
+-- ---- labels
+
+-- U+0000 begins with C0
+abbrev pub is_free : ℕ → Bool
+is_free b = not (b == 0xC0)
+
+-- the text is of characters: no surrogate stands outside a pair, and there is no U+0000
+abbrev pub are_characters : Text → Bool
+are_characters text = is_utf8 text && (is_paired text && list_all is_free text)
+
+abbrev pub has_text_targets : Operation → Bool
+has_text_targets (Operation.Branch op to) = are_characters to
+has_text_targets (Operation.TableSwitch low labels default) = list_all are_characters labels && are_characters default
+has_text_targets (Operation.LookupSwitch cases default) = list_all (λ (c : Case). are_characters c.label) cases && are_characters default
+has_text_targets _ = true
+
+abbrev pub is_text_or_none : Option Text → Bool
+is_text_or_none None = true
+is_text_or_none (Some label) = are_characters label
+
+-- each label of the line is of characters
+abbrev pub has_text_labels : Line → Bool
+has_text_labels (Line.Step label operation) = is_text_or_none label && has_text_targets operation
+has_text_labels (Line.Catch from to handler class) = are_characters from && (are_characters to && are_characters handler)
+has_text_labels _ = true

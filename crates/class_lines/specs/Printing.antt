@@ -4,12 +4,14 @@ use Rattle.std.specs.List.{flat_map}
 use Rattle.std.specs.Char.{digit_char}
 use Rattle.std.specs.Fmt.{decimal, signed_decimal}
 use Rattle.opcode_table.specs.Table.{mnemonic_of}
+use Rattle.class_file.specs.Text.{within}
 use Rattle.class_lines.specs.declared.line.Line.{Line}
 use Rattle.class_lines.specs.declared.line.MemberHead.{MemberHead}
 use Rattle.class_lines.specs.declared.line.Operation.{Operation}
 use Rattle.class_lines.specs.declared.line.Constant.{Constant}
 use Rattle.class_lines.specs.declared.line.Case.{Case}
 use Rattle.class_lines.specs.Words.{Text}
+use Rattle.class_lines.specs.Units.{units_of}
 
 -- a word behind a blank
 abbrev pub spaced : Text → Text
@@ -30,15 +32,16 @@ hex_digits (suc count) n = hex_digits count (n / 16) ++ hex_digit (n % 16) ∷ [
 
 -- ---- constants
 
--- a byte of a text between quotes: a line feed, a carriage return, a quote and a backslash stand behind a backslash
+-- A UTF-16 unit of a text between quotes: a quote, a backslash and a line feed stand behind a backslash, and units below 32 and above 126 are written by four digits.
 abbrev pub escape : ℕ → Text
-escape b =
-    if b == 10 then codes "\\n" else
-    (if b == 13 then codes "\\r" else
-    (if b == 34 || b == 92 then 92 ∷ b ∷ [] else b ∷ []))
+escape u =
+    if u == 34 || u == 92 then 92 ∷ u ∷ [] else
+    (if u == 10 then codes "\\n" else
+    (if within 32 127 u then u ∷ [] else codes "\\u" ++ hex_digits 4 u))
 
+-- a text in modified UTF-8, unit by unit
 abbrev pub quote : Text → Text
-quote text = 34 ∷ flat_map escape text ++ 34 ∷ []
+quote text = 34 ∷ flat_map escape (units_of text) ++ 34 ∷ []
 
 abbrev pub constant_text : Constant → Text
 constant_text (Constant.Int n) = signed_decimal n

@@ -6,20 +6,27 @@ ghost use Rattle.class_lines.specs.Words.{texts};
 
 use std::alloc::{AllocError, Global};
 
+/// Whether a byte ends a word of a line: a space, a tab, or a line feed, which no line of a text has.
+pub fn is_blank(byte: u8) -> bool
+    ensures { result ≡ is_blank byte }
+{
+    byte == b' ' || byte == b'\t' || byte == b'\n'
+}
+
 pub(crate) fn is_inside(byte: u8) -> bool
     ensures { result ≡ is_inside byte }
 {
-    byte != b' '
+    !is_blank(byte)
 }
 
 fn skip_blanks(text: &[u8]) -> &[u8]
     ensures { result.now ≡ behind_run is_blank text.now }
 {
-    let mut rest = text;
-    while let [b' ', after @ ..] = rest {
-        rest = after;
-    }
-    rest
+    let len = text
+        .iter()
+        .position(|byte| !is_blank(*byte))
+        .unwrap_or(text.len());
+    text.split_at(len).1
 }
 
 fn without_blanks_at_end(text: &[u8]) -> &[u8]
@@ -27,7 +34,7 @@ fn without_blanks_at_end(text: &[u8]) -> &[u8]
 {
     let mut front = text;
     while let Some((last, before)) = front.split_last() {
-        if *last != b' ' {
+        if is_inside(*last) {
             return front;
         }
         front = before;

@@ -3,15 +3,20 @@
 ghost use Rattle.std.specs.Prelude.{◌≡◌, ◌++◌, ◌<◌, ◌∷◌, [], map, codes, option_copied, Some, true, OnOk};
 ghost use Rattle.std.specs.Fmt.{decimal, signed_decimal};
 ghost use Rattle.std.specs.List.{flat_map};
-ghost use Rattle.class_lines.specs.Lines.{is_line};
+ghost use Rattle.class_lines.specs.Lines.{is_line, has_text_labels};
 ghost use Rattle.class_lines.specs.Reading.{read_as};
+ghost use Rattle.class_lines.specs.Heard.{heard};
+ghost use Rattle.class_lines.specs.Units.{units_of};
+ghost use Rattle.class_lines.specs.Utf8.{utf8_of, is_one_line};
 ghost use Rattle.class_lines.specs.Printing.{spaced, all_spaced, natural_text, hex_digit, hex_digits, escape, quote, constant_text, case_text, default_text, op_of, operands_text, operation_text, head_text, interfaces_text, label_text, caught_text, line_text};
 
 use crate::line::{Case, Constant, Line, MemberHead, Operation};
+use crate::units::first_unit;
+use crate::utf8::put_utf8;
 use aj_names::ByteString;
 use itoa::Buffer;
 use opcode_table::mnemonic;
-use std::alloc::AllocError;
+use std::alloc::{AllocError, Global};
 
 const BIPUSH: u8 = 16;
 
@@ -102,15 +107,31 @@ fn put_hex(out: &mut Vec<u8>, count: u32, n: u64) -> Result<(), AllocError>
     Ok(())
 }
 
-fn put_escaped(out: &mut Vec<u8>, byte: u8) -> Result<(), AllocError>
-    ensures { OnOk result (out.new.items ≡ out.old.items ++ escape byte) }
+/// A UTF-16 unit between quotes.
+fn put_escaped(out: &mut Vec<u8>, unit: u16) -> Result<(), AllocError>
+    ensures { OnOk result (out.new.items ≡ out.old.items ++ escape unit) }
 {
-    match byte {
-        b'\n' => put(out, b"\\n"),
-        b'\r' => put(out, b"\\r"),
-        b'"' | b'\\' => put(out, &[b'\\', byte]),
-        _ => put(out, &[byte]),
+    match unit {
+        0x22 | 0x5c => put(out, &[b'\\', unit as u8]),
+        0x0a => put(out, b"\\n"),
+        0x20..=0x7e => put(out, &[unit as u8]),
+        _ => {
+            put(out, b"\\u")?;
+            put_hex(out, 4, u64::from(unit))
+        }
     }
+}
+
+/// The units of a text in modified UTF-8, each as it is written between quotes.
+fn put_units(out: &mut Vec<u8>, text: &[u8]) -> Result<(), AllocError>
+    ensures { OnOk result (out.new.items ≡ out.old.items ++ flat_map escape (units_of text.now)) }
+{
+    let mut rest = text;
+    while let Some((unit, behind)) = first_unit(rest) {
+        put_escaped(out, unit)?;
+        rest = behind;
+    }
+    Ok(())
 }
 
 /// A text in quotes.
@@ -118,9 +139,7 @@ fn put_quoted(out: &mut Vec<u8>, text: &[u8]) -> Result<(), AllocError>
     ensures { OnOk result (out.new.items ≡ out.old.items ++ quote text.now) }
 {
     put(out, b"\"")?;
-    for byte in text {
-        put_escaped(out, *byte)?;
-    }
+    put_units(out, text)?;
     put(out, b"\"")
 }
 
@@ -373,11 +392,24 @@ fn put_text(out: &mut Vec<u8>, line: &Line) -> Result<(), AllocError>
 }
 
 /// Adds a line to a text, without a line feed. The instructions and the exception table of a method
-/// stand two blanks from the left.
+/// stand two blanks from the left. Names are in modified UTF-8, as in a class file.
 pub fn put_line(out: &mut Vec<u8>, line: &Line) -> Result<(), AllocError>
     ensures text { OnOk result (out.new.items ≡ out.old.items ++ line_text line.now) }
     // A line of the form is read back from its text.
     ensures read_back { is_line line.now ≡ true → read_as (line_text line.now) ≡ Some (Some line.now) }
 {
     put_text(out, line)
+}
+
+/// Adds a line to a text in UTF-8, without a line feed.
+pub fn put_text_line(alloc: Global, out: &mut Vec<u8>, line: &Line) -> Result<(), AllocError>
+    ensures text { OnOk result (out.new.items ≡ out.old.items ++ utf8_of (line_text line.now)) }
+    // A line of the form whose labels are of characters is read back from its text in UTF-8.
+    ensures heard_back { is_line line.now ≡ true → has_text_labels line.now ≡ true → heard (utf8_of (line_text line.now)) ≡ Some (Some line.now) }
+    // The text of a line of the form has no line feed.
+    ensures one_line { is_line line.now ≡ true → is_one_line (utf8_of (line_text line.now)) ≡ true }
+{
+    let mut bytes = Vec::new(alloc);
+    put_text(&mut bytes, line)?;
+    put_utf8(out, bytes.as_slice())
 }

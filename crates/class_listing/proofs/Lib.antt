@@ -2,3 +2,9 @@ pub mod Numbered
 pub mod Walking
 pub mod Marking
 pub mod Lists
+pub mod Labels
+pub mod Shown
+pub mod Instructions
+pub mod Bodies
+pub mod Parts
+pub mod ComesBack

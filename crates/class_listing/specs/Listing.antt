@@ -1,5 +1,5 @@
 -- The listing of a class file: the lines of class text that say it (JVMS 4.1), and a line for each attribute that class text can't say.
-use Rattle.std.specs.Prelude.{List, [], ◌∷◌, ◌++◌, map, codes, Option, Some, None}
+use Rattle.std.specs.Prelude.{ℕ, List, [], ◌∷◌, ◌++◌, map, codes, Option, Some, None}
 use Rattle.std.specs.List.{flat_map}
 use Rattle.std.specs.Fmt.{decimal}
 use Rattle.class_file.specs.declared.pool.PoolEntry.{PoolEntry}
@@ -15,6 +15,7 @@ use Rattle.class_lines.specs.declared.line.Line.{Line}
 use Rattle.class_lines.specs.declared.line.MemberHead.{MemberHead}
 use Rattle.class_lines.specs.Words.{Text}
 use Rattle.class_lines.specs.Printing.{spaced, line_text}
+use Rattle.class_lines.specs.Utf8.{utf8_of}
 use Rattle.class_listing.specs.declared.listed.Listed.{Listed}
 use Rattle.class_listing.specs.Names.{text_shown, class_shown}
 use Rattle.class_listing.specs.Lengths.{code_content_length, content_length}
@@ -75,10 +76,14 @@ listing_of c =
 
 -- ---- the text
 
--- `attribute NAME N` is no line of class text
+-- `attribute NAME N`, which is no line of class text
+abbrev pub attribute_text : Text → ℕ → Text
+attribute_text name length = codes "attribute" ++ spaced (utf8_of name) ++ spaced (decimal length)
+
+-- a line in UTF-8
 abbrev pub listed_text : Listed → Text
-listed_text (Listed.Line line) = line_text line
-listed_text (Listed.Attribute name length) = codes "attribute" ++ spaced name ++ spaced (decimal length)
+listed_text (Listed.Line line) = utf8_of (line_text line)
+listed_text (Listed.Attribute name length) = attribute_text name length
 
 -- each line with its line feed
 abbrev pub listing_text : List Listed → Text

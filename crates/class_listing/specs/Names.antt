@@ -1,17 +1,18 @@
 -- The words that stand in a listing for what the indices of a pool name (JVMS 4.4), and for places in code.
-use Rattle.std.specs.Prelude.{ℕ, zero, suc, ◌==◌, ◌||◌, if◌then◌else◌, List, [], ◌∷◌, map, codes, Option, Some, None, option_and_then, ℤ}
+use Rattle.std.specs.Prelude.{ℕ, zero, suc, if◌then◌else◌, List, [], ◌∷◌, map, codes, Option, Some, None, option_and_then, ℤ}
 use Rattle.std.specs.Fmt.{signed_decimal}
 use Rattle.std.specs.Str.{bytes_eq}
 use Rattle.class_file.specs.declared.pool.PoolEntry.{PoolEntry}
 use Rattle.class_file.specs.declared.pool.PoolEntry.TheVariants as entry
 use Rattle.class_file.specs.Pool.{Reference, entry_at, text_at, class_at, referred}
+use Rattle.class_lines.specs.Fields.{is_blank}
 use Rattle.class_lines.specs.Words.{Text}
 
 -- ---- names
 
 -- A byte of a word. A blank or a line feed would end it: `.` stands in its place, which no name has (JVMS 4.2, 4.3).
 abbrev pub visible : ℕ → ℕ
-visible b = if b == 32 || b == 10 then 46 else b
+visible b = if is_blank b then 46 else b
 
 -- `.` stands for what isn't there or has no byte
 abbrev pub shown : Option Text → Text

@@ -1,9 +1,10 @@
 //! The listing of a class file.
 
-ghost use Rattle.std.specs.Prelude.{◌≡◌, ◌++◌, map, IfOk, OnOk};
+ghost use Rattle.std.specs.Prelude.{◌≡◌, ◌++◌, ℕ, List, map, Ok, IfOk, OnOk};
 ghost use Rattle.std.specs.Option.{option_copied};
 ghost use Rattle.std.specs.List.{flat_map};
 ghost use Rattle.class_file.specs.declared.types.Attribute.{Attribute};
+ghost use Rattle.class_text.specs.ClassOf.{class_of};
 ghost use Rattle.class_listing.specs.Names.{class_shown};
 ghost use Rattle.class_listing.specs.Listing as rule;
 
@@ -196,6 +197,14 @@ fn listing_of(alloc: Global, class: &ClassFile) -> Result<Items<Listed>, AllocEr
     Ok(listing)
 }
 
+/// The text of a class file.
+fn class_text(alloc: Global, class: &ClassFile) -> Result<Vec<u8>, AllocError>
+    ensures { IfOk result (λ text. text.items ≡ rule.listing_text (rule.listing_of class.now)) }
+{
+    let listing = listing_of(alloc, class)?;
+    text_of(alloc, listing.as_slice())
+}
+
 /// Class text of a class file: the class with its flags and interfaces, its fields and its methods, and
 /// of a method's code the instructions in order and then the exception table. The place of an
 /// instruction is its label where a branch, a switch or the exception table names it. Each attribute
@@ -203,11 +212,12 @@ fn listing_of(alloc: Global, class: &ClassFile) -> Result<Items<Listed>, AllocEr
 /// and so has code with a place where no instruction stands. That line is none of class text, so that a
 /// text with one is not read as a class.
 ///
-/// A name that the class file lacks is written `.`, and so is a blank or a line feed in a name: no name
-/// has a `.` (JVMS 4.2).
+/// The text is in UTF-8. A name that the class file lacks is written `.`, and so is a blank or a line
+/// feed in a name: no name has a `.` (JVMS 4.2).
 pub fn to_text(alloc: Global, class: &ClassFile) -> Result<Vec<u8>, AllocError>
     ensures exact { IfOk result (λ text. text.items ≡ rule.listing_text (rule.listing_of class.now)) }
+    // A class that a text is comes back from the text that is given here.
+    ensures back { (text : List ℕ) → class_of text ≡ Ok class.now → IfOk result (λ given. class_of given.items ≡ Ok class.now) }
 {
-    let listing = listing_of(alloc, class)?;
-    text_of(alloc, listing.as_slice())
+    class_text(alloc, class)
 }

@@ -8,18 +8,15 @@ ghost use Rattle.class_listing.specs.Names as rule;
 
 use aj_names::ByteString;
 use class_file::{PoolEntry, Reference, class_at, entry_at, named_type_at, text_at};
+use class_lines::is_blank;
 use itoa::Buffer;
 use std::alloc::{AllocError, Global};
 
-/// A byte of a word. A blank or a line feed would end it.
+/// A byte of a word, which a blank or a line feed would end.
 fn visible(byte: u8) -> u8
     ensures { result ≡ rule.visible byte }
 {
-    if byte == b' ' || byte == b'\n' {
-        b'.'
-    } else {
-        byte
-    }
+    if is_blank(byte) { b'.' } else { byte }
 }
 
 /// The bytes of a word.

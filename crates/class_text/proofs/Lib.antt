@@ -17,3 +17,4 @@ pub mod WellFormed
 pub mod Relabelled
 pub mod SameClass
 pub mod SameFile
+pub mod NumberedLines

@@ -116,6 +116,9 @@ module _ (version : ℕ) (body : List Numbered) (near : AreNear body) (code : Li
       go true is = let le = leb-true place 65535 is in lt-ltb place 65536 (omega arith)
       go false is = refl
 
+  index_near : (o : Option ℕ) → place_index o ≤ 65535
+  index_near o = let lt = ltb-true (place_index o) 65536 (index_small o) in omega arith
+
   none_stray : (e : ExceptionEntry) → is_start insns e.start ≡ true → is_start insns e.end ≡ true → is_start insns e.handler ≡ true → stray_in code insns e ≡ None
   none_stray e s n h =
       ap (λ (t : Bool). or_else (unless t e.start) (or_else (unless (is_start insns e.end || e.end == length code) e.end) (unless (is_start insns e.handler) e.handler))) s
@@ -154,7 +157,7 @@ module _ (version : ℕ) (body : List Numbered) (near : AreNear body) (code : Li
         grown = c.grown;
         holds = λ more x. (
           record {
-            guard = record { start = at_place from p.0; end = at_place to q.0; handler = at_place handler q.1; caught = c.is more x };
+            guard = record { start = at_place from p.0; end = at_place to q.0; handler = at_place handler q.1; near = (index_near (place_of from 0 body), index_near (place_of to 0 body), index_near (place_of handler 0 body)); caught = c.is more x };
             leads = none_stray e (at_start from p.0) (at_start to q.0) (at_start handler q.1);
             class = c.named more x;
             fits = and_from (is_u2 e.start) (is_u2 e.end && (is_u2 e.handler && is_u2 e.catch_type)) (index_small (place_of from 0 body))

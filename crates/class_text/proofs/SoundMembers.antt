@@ -35,7 +35,7 @@ use Rattle.class_text.specs.Making.{steps_made, entries_made, count_with, head_m
 use Rattle.class_text.proofs.Insns.{AreNear}
 use Rattle.class_text.proofs.Pools.{index_fits, text_within}
 use Rattle.class_text.proofs.Made.{then_parts, same_ok, Grown, made_text}
-use Rattle.class_text.proofs.Steps.{Made, IsMade, placed_of, OfForm, AreOfForm, if_none, steps_are, grown_further, linked_grown, operands_are, instructions_are, leads_are, steps_mean}
+use Rattle.class_text.proofs.Steps.{Made, IsMade, placed_of, OfForm, AreOfForm, if_none, steps_are, grown_further, linked_grown, operands_are, instructions_are, leads_are, steps_mean, in_row}
 use Rattle.class_text.proofs.CodeBytes.{code_bytes}
 use Rattle.class_text.proofs.Methods.{Lists, OneMade, nothing_made, none_left, counted_parts, with_one, entries_are, none_astray, all_caught, all_entries_fit, all_guards}
 use Rattle.class_text.proofs.Utf8.{member_utf8, field_utf8, method_utf8}
@@ -112,6 +112,8 @@ module _ (version : ℕ) (body : List Numbered) (end : ℕ) (form : AreOfForm bo
             insns = insns;
             decoded = are;
             steps = steps_mean version body near code 0 a.value.0 b.value.0 more s.made (steps_in body) s.each s.linked (extends-further b.value.0 c.value.0 more l.grown.grows x) s.is s.says;
+            places = in_row version body 0 a.value.0 b.value.0 s.made (steps_in body) s.each s.linked s.says;
+            short = short;
             entries = all_guards version body near code insns s.labels more entries guards (l.each more x);
             most_stack = refl;
             most_locals = refl;

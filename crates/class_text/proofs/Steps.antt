@@ -29,7 +29,7 @@ use Rattle.class_text.specs.Bytes.{local_operation, increment_operation, branch_
 use Rattle.class_text.specs.Pool.{index_made}
 use Rattle.class_text.specs.Making.{step_made, steps_made}
 use Rattle.class_text.proofs.Numbers.{back}
-use Rattle.class_text.specs.Meaning.{insn_of, labels_of, HasKeys, Labelled, steps_in, Names, IsStep}
+use Rattle.class_text.specs.Meaning.{insn_of, labels_of, HasKeys, Labelled, steps_in, Names, StandsIn, IsStep, AreInRow}
 use Rattle.class_text.proofs.Insns.{HasIndex, AreNear, IsNoSwitch, operation_spelled}
 use Rattle.class_text.proofs.Switches.{At, table_stands, lookup_stands}
 use Rattle.class_text.proofs.Made.{then_parts, same_ok, Grown, grown_itself, Indexed, index_is, names_stay, operand_named}
@@ -342,6 +342,17 @@ labels_lead body pc (Operation.LookupSwitch cases default) h =
     and_from (has_label body default) (list_all (has_label body) (map (λ (c : Case). c.label) cases)) p.0 (list_all-map (has_label body) (λ (c : Case). c.label) cases ∙ p.1)
 labels_lead body pc _ h = refl
 
+-- each stands where the one before ends
+pub in_row : (version : ℕ) (body : List Numbered) (pc : ℕ) (pool last : List PoolEntry) (ms : List Made) (steps : List Labelled) → AllByRecursion (IsMade version body) ms → Linked pc pool ms last → AllZip (OfStep body) ms steps → AreInRow pc (map (placed_of body) ms) steps
+in_row version body pc pool last [] steps each linked says = tt
+in_row version body pc pool last (m ∷ ms) [] each linked says = absurd says
+in_row version body pc pool last (m ∷ ms) (s ∷ steps) each linked says =
+    let room : pc + size_at pc m.operation ≤ 65535 = subst (λ (n : ℕ). n + size_at n m.operation ≤ 65535) linked.0 each.0.room in (
+      linked.0,
+      subst (λ (o : Operation). pc + size_at pc o ≤ 65535) says.0.operation room,
+      subst (λ (o : Operation). AreInRow (pc + size_at pc o) (map (placed_of body) ms) steps) says.0.operation (in_row version body (pc + size_at pc m.operation) m.after last ms steps each.1 linked.2 says.1),
+    )
+
 module _ (version : ℕ) (body : List Numbered) (near : AreNear body) (code : List ℕ) where
   stands_at : (m : Made) → IsMade version body m → At code m.pc (operation_bytes body m.pc m.index m.operation) → Stands code body m.pc m.index m.operation
   stands_at m i a = operation_stands code body m.pc m.index m.operation i.form i.leads (indexed version body m i).has i.room near a
@@ -406,6 +417,16 @@ module _ (version : ℕ) (body : List Numbered) (near : AreNear body) (code : Li
       cond-true (placed_leads_well code insns (placed_of body m)) _ (Some m.pc) leads
       ∙ leads_are insns labels (pc + size_at pc m.operation) m.after last ms each.1 linked.2 (behind pc m ms linked.0 is)
 
+  -- labels that are there stand at places of code
+  labels_stand : (names : List Text) → list_all (has_label body) names ≡ true → AllByRecursion (StandsIn body) names
+  labels_stand [] h = tt
+  labels_stand (name ∷ names) h =
+      let p = and_parts (has_label body name) (list_all (has_label body) names) h in (one (place_of name 0 body) refl p.0, labels_stand names p.1)
+    where
+      one : (o : Option ℕ) → place_of name 0 body ≡ o → is_some o ≡ true → StandsIn body name
+      one None is h = absurd cc
+      one (Some place) is h = (place, is, near.near name place is)
+
   -- each instruction is the one of its line
   pub steps_mean : (pc : ℕ) (pool last more : List PoolEntry) (ms : List Made) (steps : List Labelled) → AllByRecursion (IsMade version body) ms → Linked pc pool ms last → Extends last more → drop pc code ≡ bytes_of body ms → AllZip (OfStep body) ms steps
       → AllZip (IsStep more code body) (map (placed_of body) ms) steps
@@ -422,6 +443,7 @@ module _ (version : ℕ) (body : List Numbered) (near : AreNear body) (code : Li
           index = m.index;
           insn = ap (insn_of body m.pc m.index) o;
           names = subst (λ (o : Operation). Names more m.index o) o named;
+          there = subst (λ (o : Operation). AllByRecursion (StandsIn body) (labels_of o)) o (labels_stand (labels_of m.operation) (labels_lead body m.pc m.operation each.0.leads));
           leads = stands.leads ∙ ap (λ (o : Operation). map (λ name. distance m.pc (place_of name 0 body)) (labels_of o)) o;
           keys = subst (λ (o : Operation). HasKeys code m.pc o) o stands.keys;
           labelled = says.0.labelled;

@@ -1,6 +1,6 @@
 -- What a class file is to the lines that it is made of: by the standard's decoding of its code (JVMS 6.4), and by what the indices of its pool stand for (JVMS 4.4).
-use Rattle.std.specs.Prelude.{◌≡◌, ℕ, ◌==◌, nat_le, nat_lt, if◌then◌else◌, List, [], ◌∷◌, map, codes, Option, Some, None, Ok}
-use Rattle.std.specs.List.{AllZip, cons_option}
+use Rattle.std.specs.Prelude.{◌≡◌, ℕ, ◌+◌, ◌≤◌, ◌==◌, nat_le, nat_lt, if◌then◌else◌, List, [], ◌∷◌, length, map, codes, Option, Some, None, Ok}
+use Rattle.std.specs.List.{AllByRecursion, AllZip, cons_option}
 use Rattle.opcode_table.specs.declared.insn.Insn.{Insn}
 use Rattle.opcode_table.specs.Decoding.{table_place, table_low, pair_count, pair_key}
 use Rattle.class_file.specs.declared.pool.PoolEntry.{PoolEntry}
@@ -21,7 +21,7 @@ use Rattle.class_lines.specs.declared.line.Case.{Case}
 use Rattle.class_lines.specs.Words.{Text}
 use Rattle.constant_pool.specs.Meaning.{reference}
 use Rattle.class_text.specs.declared.numbered.Numbered.{Numbered}
-use Rattle.class_text.specs.Labels.{is_wide_increment, is_end, place_of, distance}
+use Rattle.class_text.specs.Labels.{is_wide_increment, size_at, is_end, place_of, distance}
 use Rattle.class_text.specs.Bytes.{argument_slots}
 
 -- ---- instructions
@@ -123,11 +123,16 @@ guards_in (line ∷ lines) = if is_end line.line then [] else cons_option (guard
 
 -- ---- code
 
+-- the label stands before an instruction, at a place of code
+abbrev pub StandsIn : List Numbered → Text → Type 0
+StandsIn body name = (place : ℕ) × (place_of name 0 body ≡ Some place) × (place ≤ 65535)
+
 -- What stands at a place is the instruction of the line: it names what the line does, it leads where the line's labels stand, and the line's own label stands at this place.
 pub record IsStep (pool : List PoolEntry) (code : List ℕ) (body : List Numbered) (p : Placed) (s : Labelled) : Type 0 where
   pub index : ℕ
   pub insn : p.insn ≡ insn_of body p.pc index s.operation
   pub names : Names pool index s.operation
+  pub there : AllByRecursion (StandsIn body) (labels_of s.operation)
   pub leads : offsets code p.insn ≡ map (λ name. distance p.pc (place_of name 0 body)) (labels_of s.operation)
   pub keys : HasKeys code p.pc s.operation
   pub labelled : (name : Text) → s.label ≡ Some name → place_of name 0 body ≡ Some p.pc
@@ -142,13 +147,22 @@ pub record IsGuard (pool : List PoolEntry) (body : List Numbered) (e : Exception
   pub start : place_of g.from 0 body ≡ Some e.start
   pub end : place_of g.to 0 body ≡ Some e.end
   pub handler : place_of g.handler 0 body ≡ Some e.handler
+  pub near : (e.start ≤ 65535) × (e.end ≤ 65535) × (e.handler ≤ 65535)
   pub caught : IsCaught pool e.catch_type g.class
+
+-- each instruction stands where the one before ends, the first at this place
+abbrev pub AreInRow : ℕ → List Placed → List Labelled → Type 0
+AreInRow pc [] steps = Unit {0}
+AreInRow pc (p ∷ insns) [] = ⊥
+AreInRow pc (p ∷ insns) (s ∷ steps) = (p.pc ≡ pc) × (pc + size_at pc s.operation ≤ 65535) × AreInRow (pc + size_at pc s.operation) insns steps
 
 -- the code is that of the lines: its instructions, one behind the other, are theirs
 pub record IsCode (pool : List PoolEntry) (body : List Numbered) (stack locals : ℕ) (c : CodeAttr) : Type 0 where
   pub insns : List Placed
   pub decoded : instructions c.code ≡ Ok insns
   pub steps : AllZip (IsStep pool c.code body) insns (steps_in body)
+  pub places : AreInRow 0 insns (steps_in body)
+  pub short : length c.code ≤ 65535
   pub entries : AllZip (IsGuard pool body) c.entries (guards_in body)
   pub most_stack : c.max_stack ≡ stack
   pub most_locals : c.max_locals ≡ locals

@@ -16,7 +16,9 @@ use Rattle.std.proofs.lemmas.List.{length-set}
 use Rattle.machine_frames.specs.Effects.{AreKnown, locals_of}
 use Rattle.machine_frames.specs.Operands.{Onward, PopsKind, LacksKind, StaysKnown, IsSettledValue}
 use Rattle.machine_frames.specs.Calls.{kinds_of, PopsArguments, LacksArguments, AreSettled, AreSettledIn, PopsReceiver, LacksReceiver, CallsOn, CallBreaks, IsKnownReceiver}
+use Rattle.machine_frames.specs.Undoing.{TakesAll}
 use Rattle.machine_frames.proofs.Known.{still_known}
+use Rattle.machine_frames.proofs.Undone.{takes_none, takes_more, reverse_first}
 
 abbrev Ops : Type 0
 Ops = List (machine.Value Place)
@@ -91,6 +93,7 @@ pub record Taking (kinds : List Kind) (s : Stack) (left : ℕ) (vs : List Value)
   pub popped : Popping kinds s left vs t
   pub stays : StaysKnown s t
   pub settled : (count : ℕ) → AreKnown count s.values → AreSettled count (drop left vs)
+  pub taken : TakesAll s (reverse (drop left vs)) t
 
 pub taking_start : (kinds : List Kind) (s : Stack) (vs : List Value) → length vs ≡ length kinds → Taking kinds s (length kinds) vs s
 taking_start kinds s vs e = record {
@@ -100,11 +103,12 @@ taking_start kinds s vs e = record {
   popped = popping_start kinds s vs e;
   stays = record { stays = λ count all. all };
   settled = λ count all. subst (AreSettled count) (sym (drop_all (length kinds) vs (omega arith))) tt;
+  taken = subst (λ (us : List Value). TakesAll s (reverse us) s) (sym (drop_all (length kinds) vs (omega arith))) (takes_none s);
 }
 
 pub taking_next : (kinds : List Kind) (s t u : Stack) (vs : List Value) (left : ℕ) (d : Kind) (v : Value) → 0 < left → Taking kinds s left vs t
-    → u.room ≡ t.room → PopsKind (get_or kinds (left - 1) d) t v u → StaysKnown t u → IsSettledValue t v → Taking kinds s (left - 1) (set vs (left - 1) v) u
-taking_next kinds s t u vs left d v h p room q stays settles = record {
+    → u.room ≡ t.room → PopsKind (get_or kinds (left - 1) d) t v u → StaysKnown t u → IsSettledValue t v → TakesAll t (v ∷ []) u → Taking kinds s (left - 1) (set vs (left - 1) v) u
+taking_next kinds s t u vs left d v h p room q stays settles took = record {
   within = let w = p.within in omega arith;
   whole = length-set vs (left - 1) v ∙ p.whole;
   room = room ∙ p.room;
@@ -113,6 +117,10 @@ taking_next kinds s t u vs left d v h p room q stays settles = record {
   settled = λ count all.
       subst (AreSettled count) (sym (drop-set vs (left - 1) v (let whole = p.whole in let w = p.within in omega arith)))
       (settles.settled count (p.stays.stays count all), subst (λ i. AreSettled count (drop i vs)) before (p.settled count all));
+  taken =
+      subst (λ (us : List Value). TakesAll s (reverse us) u) (sym (drop-set vs (left - 1) v (let whole = p.whole in let w = p.within in omega arith)))
+      (subst (λ (us : List Value). TakesAll s us u) (sym (reverse_first v (drop (left - 1 + 1) vs)))
+      (takes_more s t u (reverse (drop (left - 1 + 1) vs)) (v ∷ []) (subst (λ i. TakesAll s (reverse (drop i vs)) t) before p.taken) took));
 } where
   before : left ≡ left - 1 + 1
   before = omega arith
@@ -132,6 +140,11 @@ taking_done kinds s t vs left h p = popping_done kinds s t vs (subst (λ i. Popp
 
 pub taking_settled : (kinds : List Kind) (s t : Stack) (vs : List Value) (left : ℕ) → left ≤ 0 → Taking kinds s left vs t → AreSettledIn s vs
 taking_settled kinds s t vs left h p = record { settled = λ count all. subst (λ i. AreSettled count (drop i vs)) none (p.settled count all) } where
+  none : left ≡ 0
+  none = omega arith
+
+pub taking_taken : (kinds : List Kind) (s t : Stack) (vs : List Value) (left : ℕ) → left ≤ 0 → Taking kinds s left vs t → TakesAll s (reverse vs) t
+taking_taken kinds s t vs left h p = subst (λ i. TakesAll s (reverse (drop i vs)) t) none p.taken where
   none : left ≡ 0
   none = omega arith
 

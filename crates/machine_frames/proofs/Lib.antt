@@ -9,3 +9,5 @@ pub mod Arguments
 pub mod Fresh
 pub mod Sizing
 pub mod Fitting
+pub mod Undone
+pub mod FillingIn

@@ -8,3 +8,4 @@ pub mod Calls
 pub mod Tokens
 pub mod Sizes
 pub mod Peeks
+pub mod Undoing

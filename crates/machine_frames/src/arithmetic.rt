@@ -1,18 +1,19 @@
 //! Arithmetic of ints and longs (JVMS 3.11.3, 3.11.4).
-#![tactic(auto, using(crate::proofs::Known::still_known))]
+#![tactic(auto, using(crate::proofs::Known::still_known, crate::proofs::Undone::plain_on))]
 
-ghost use Rattle.std.specs.Prelude.{◌≡◌, ℕ};
+ghost use Rattle.std.specs.Prelude.{◌≡◌, ℕ, true};
 ghost use Rattle.class_machine.specs.Effect as definition;
 ghost use Rattle.machine_frames.specs.Operands.{Works, StaysKnown, IsFree};
+ghost use Rattle.machine_frames.specs.Undoing.{UndoesOn, is_plain};
 
 use crate::effect::Effect;
 use crate::numbers::{
     compare_longs, int_binary, int_divide, int_shift, int_to_byte, int_to_char, int_to_short,
     long_binary, long_divide, long_shift, long_to_int,
 };
-use crate::operands::{has_room, pop_int, pop_kind, pop_long, push_int, push_long};
+use crate::operands::{has_room, pop_int, pop_kind, pop_long, push_int, push_long, put_all_back};
 use class_machine::kinds::{Binary, Conversion, Division, Fault, Kind, Shift};
-use machine_values::Operands;
+use machine_values::{Operands, Value};
 
 /// The sum, difference, product or bits of two ints.
 pub fn binary_of_ints(operands: &mut Operands, op: Binary) -> Effect
@@ -20,6 +21,7 @@ pub fn binary_of_ints(operands: &mut Operands, op: Binary) -> Effect
     ensures done { Works operands.old operands.new result (λ s ops ls. definition.int_binary s.room op ops ls) }
     ensures within { StaysKnown operands.old operands.new }
     ensures known { IsFree result }
+    ensures plain { is_plain result ≡ true }
 {
     let Some(y) = pop_int(operands) else {
         return Effect::Broken
@@ -36,6 +38,7 @@ pub fn binary_of_longs(operands: &mut Operands, op: Binary) -> Effect
     ensures done { Works operands.old operands.new result (λ s ops ls. definition.long_binary s.room op ops ls) }
     ensures within { StaysKnown operands.old operands.new }
     ensures known { IsFree result }
+    ensures plain { is_plain result ≡ true }
 {
     let Some(y) = pop_long(operands) else {
         return Effect::Broken
@@ -52,6 +55,7 @@ pub fn divide_ints(operands: &mut Operands, op: Division) -> Effect
     ensures done { Works operands.old operands.new result (λ s ops ls. definition.int_divide s.room op ops ls) }
     ensures within { StaysKnown operands.old operands.new }
     ensures known { IsFree result }
+    ensures undone { UndoesOn operands.old operands.new result }
 {
     let Some(y) = pop_int(operands) else {
         return Effect::Broken
@@ -60,6 +64,7 @@ pub fn divide_ints(operands: &mut Operands, op: Division) -> Effect
         return Effect::Broken
     };
     if y == 0 {
+        put_all_back(operands, &[Value::Int(x), Value::Int(y)]);
         return Effect::Fail(Fault::Arithmetic);
     }
     push_int(operands, int_divide(op, x, y))
@@ -71,6 +76,7 @@ pub fn divide_longs(operands: &mut Operands, op: Division) -> Effect
     ensures done { Works operands.old operands.new result (λ s ops ls. definition.long_divide s.room op ops ls) }
     ensures within { StaysKnown operands.old operands.new }
     ensures known { IsFree result }
+    ensures undone { UndoesOn operands.old operands.new result }
 {
     let Some(y) = pop_long(operands) else {
         return Effect::Broken
@@ -79,6 +85,7 @@ pub fn divide_longs(operands: &mut Operands, op: Division) -> Effect
         return Effect::Broken
     };
     if y == 0 {
+        put_all_back(operands, &[Value::Long(x), Value::Long(y)]);
         return Effect::Fail(Fault::Arithmetic);
     }
     push_long(operands, long_divide(op, x, y))
@@ -90,6 +97,7 @@ pub fn negate_int(operands: &mut Operands) -> Effect
     ensures done { Works operands.old operands.new result (λ s ops ls. definition.int_negate s.room ops ls) }
     ensures within { StaysKnown operands.old operands.new }
     ensures known { IsFree result }
+    ensures plain { is_plain result ≡ true }
 {
     let Some(x) = pop_int(operands) else {
         return Effect::Broken
@@ -103,6 +111,7 @@ pub fn negate_long(operands: &mut Operands) -> Effect
     ensures done { Works operands.old operands.new result (λ s ops ls. definition.long_negate s.room ops ls) }
     ensures within { StaysKnown operands.old operands.new }
     ensures known { IsFree result }
+    ensures plain { is_plain result ≡ true }
 {
     let Some(x) = pop_long(operands) else {
         return Effect::Broken
@@ -116,6 +125,7 @@ pub fn shift_int(operands: &mut Operands, op: Shift) -> Effect
     ensures done { Works operands.old operands.new result (λ s ops ls. definition.int_shift s.room op ops ls) }
     ensures within { StaysKnown operands.old operands.new }
     ensures known { IsFree result }
+    ensures plain { is_plain result ≡ true }
 {
     let Some(count) = pop_int(operands) else {
         return Effect::Broken
@@ -132,6 +142,7 @@ pub fn shift_long(operands: &mut Operands, op: Shift) -> Effect
     ensures done { Works operands.old operands.new result (λ s ops ls. definition.long_shift s.room op ops ls) }
     ensures within { StaysKnown operands.old operands.new }
     ensures known { IsFree result }
+    ensures plain { is_plain result ≡ true }
 {
     let Some(count) = pop_int(operands) else {
         return Effect::Broken
@@ -148,6 +159,7 @@ pub fn convert(operands: &mut Operands, conversion: Conversion) -> Effect
     ensures done { Works operands.old operands.new result (λ s ops ls. definition.convert s.room conversion ops ls) }
     ensures within { StaysKnown operands.old operands.new }
     ensures known { IsFree result }
+    ensures plain { is_plain result ≡ true }
 {
     if let Conversion::LongToInt = conversion {
         let Some(x) = pop_long(operands) else {
@@ -172,6 +184,7 @@ pub fn compare_long(operands: &mut Operands) -> Effect
     ensures done { Works operands.old operands.new result (λ s ops ls. definition.compare_long s.room ops ls) }
     ensures within { StaysKnown operands.old operands.new }
     ensures known { IsFree result }
+    ensures plain { is_plain result ≡ true }
 {
     let Some(y) = pop_long(operands) else {
         return Effect::Broken
@@ -188,6 +201,7 @@ pub fn unmodelled(operands: &mut Operands, op: u8, from: Kind, both: bool, to: K
     ensures done { Works operands.old operands.new result (λ s ops ls. definition.unmodelled s.room op from both to ops) }
     ensures within { StaysKnown operands.old operands.new }
     ensures known { IsFree result }
+    ensures plain { is_plain result ≡ true }
 {
     let Some(_) = pop_kind(operands, from) else {
         return Effect::Broken

@@ -1,10 +1,11 @@
 //! Arrays and monitors (JVMS 3.11.5, 3.11.10).
-#![tactic(auto, using(crate::proofs::Known::still_known, crate::proofs::Known::reference_before))]
+#![tactic(auto, using(crate::proofs::Known::still_known, crate::proofs::Known::reference_before, crate::proofs::Undone::asks, crate::proofs::Undone::breaks))]
 
 ghost use Rattle.std.specs.Prelude.{◌≡◌, ℕ, None, ◌∷◌};
 ghost use Rattle.class_machine.specs.Effect as definition;
 ghost use Rattle.class_machine.specs.Descriptors.{primitive};
 ghost use Rattle.machine_frames.specs.Operands.{Works, StaysKnown, IsKnownEffect};
+ghost use Rattle.machine_frames.specs.Undoing.{UndoesOn};
 
 use crate::effect::{Effect, Request};
 use crate::kinds::element_kind;
@@ -18,6 +19,7 @@ pub fn new_array(operands: &mut Operands, element: Element) -> Effect
     ensures done { Works operands.old operands.new result (λ s ops ls. definition.new_array None (91 ∷ primitive element) 1 ops ls) }
     ensures within { StaysKnown operands.old operands.new }
     ensures known { IsKnownEffect operands.old result }
+    ensures undone { UndoesOn operands.old operands.new result }
 {
     let Some(size) = pop_int(operands) else {
         return Effect::Broken
@@ -31,6 +33,7 @@ pub fn load_element(operands: &mut Operands, element: Element) -> Effect
     ensures done { Works operands.old operands.new result (λ s ops ls. definition.array_load s.room element ops ls) }
     ensures within { StaysKnown operands.old operands.new }
     ensures known { IsKnownEffect operands.old result }
+    ensures undone { UndoesOn operands.old operands.new result }
 {
     let Some(index) = pop_int(operands) else {
         return Effect::Broken
@@ -51,6 +54,7 @@ pub fn store_element(operands: &mut Operands, element: Element) -> Effect
     ensures done { Works operands.old operands.new result (λ s ops ls. definition.array_store element ops ls) }
     ensures within { StaysKnown operands.old operands.new }
     ensures known { IsKnownEffect operands.old result }
+    ensures undone { UndoesOn operands.old operands.new result }
 {
     let Some(held) = pop_kind(operands, element_kind(element)) else {
         return Effect::Broken
@@ -70,6 +74,7 @@ pub fn array_length(operands: &mut Operands) -> Effect
     ensures done { Works operands.old operands.new result (λ s ops ls. definition.ask_of definition.ArrayLength ops ls) }
     ensures within { StaysKnown operands.old operands.new }
     ensures known { IsKnownEffect operands.old result }
+    ensures undone { UndoesOn operands.old operands.new result }
 {
     let Some(array) = pop_reference(operands) else {
         return Effect::Broken
@@ -83,6 +88,7 @@ pub fn enter_monitor(operands: &mut Operands) -> Effect
     ensures done { Works operands.old operands.new result (λ s ops ls. definition.ask_of definition.EnterMonitor ops ls) }
     ensures within { StaysKnown operands.old operands.new }
     ensures known { IsKnownEffect operands.old result }
+    ensures undone { UndoesOn operands.old operands.new result }
 {
     let Some(object) = pop_reference(operands) else {
         return Effect::Broken
@@ -96,6 +102,7 @@ pub fn leave_monitor(operands: &mut Operands) -> Effect
     ensures done { Works operands.old operands.new result (λ s ops ls. definition.ask_of definition.LeaveMonitor ops ls) }
     ensures within { StaysKnown operands.old operands.new }
     ensures known { IsKnownEffect operands.old result }
+    ensures undone { UndoesOn operands.old operands.new result }
 {
     let Some(object) = pop_reference(operands) else {
         return Effect::Broken

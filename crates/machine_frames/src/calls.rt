@@ -1,9 +1,10 @@
 //! What calls take from their frame (JVMS 3.11.8).
 
-ghost use Rattle.std.specs.Prelude.{◌≡◌, ℕ, MatchOption, IfOk, IfSome, OnErr};
+ghost use Rattle.std.specs.Prelude.{◌≡◌, ℕ, [], ◌∷◌, ◌++◌, reverse, MatchOption, IfOk, IfSome, OnErr};
 ghost use Rattle.machine_values.specs.States.{IsFrameWithin};
 ghost use Rattle.machine_frames.specs.Operands.{StaysKnown};
 ghost use Rattle.machine_frames.specs.Calls.{PopsArguments, LacksArguments, PopsReceiver, LacksReceiver, CallsStatic, StaticCallBreaks, CallsOn, CallBreaks, AreSettledIn, IsKnownReceiver};
+ghost use Rattle.machine_frames.specs.Undoing.{receiver_value, IsTaken, TakesAll};
 
 use crate::operands::{pop, pop_kind};
 use aj_names::ClassId;
@@ -38,6 +39,7 @@ fn pop_arguments(
     ensures within { StaysKnown operands.old operands.new }
     ensures settled { IfOk result (λ o. IfSome o (λ vs. AreSettledIn operands.old vs.items)) }
     ensures err { OnErr result (operands.new ≡ operands.old) }
+    ensures popped { IfOk result (λ o. IfSome o (λ vs. TakesAll operands.old (reverse vs.items) operands.new)) }
 {
     let mut arguments = vec![in alloc; Value::Null; kinds.len()]?;
     let mut left = kinds.len();
@@ -67,6 +69,7 @@ pub fn call_static(
     ensures within { (count : ℕ) → IsFrameWithin count frame.old → IsFrameWithin count frame.new }
     ensures settled { IfOk result (λ o. IfSome o (λ vs. AreSettledIn frame.old.operands vs.items)) }
     ensures err { OnErr result (frame.new ≡ frame.old) }
+    ensures popped { IfOk result (λ o. IfSome o (λ vs. IsTaken frame.old (reverse vs.items) frame.new)) }
 {
     pop_arguments(alloc, &mut frame.operands, kinds)
 }
@@ -77,6 +80,7 @@ fn pop_receiver(operands: &mut Operands) -> Option<Receiver>
     ensures taken { MatchOption result (LacksReceiver operands.old) (λ receiver. PopsReceiver operands.old receiver operands.new) }
     ensures known { IfSome result (λ receiver. IsKnownReceiver operands.old receiver) }
     ensures within { StaysKnown operands.old operands.new }
+    ensures popped { IfSome result (λ receiver. TakesAll operands.old (receiver_value receiver ∷ []) operands.new) }
 {
     match pop(operands)? {
         Value::Null => Some(Receiver::Object(None)),
@@ -100,6 +104,7 @@ pub fn call_on(alloc: Global, frame: &mut Frame, kinds: &[Kind]) -> Result<Optio
     ensures settled { IfOk result (λ o. IfSome o (λ call. AreSettledIn frame.old.operands call.arguments.items)) }
     ensures known { IfOk result (λ o. IfSome o (λ call. IsKnownReceiver frame.old.operands call.receiver)) }
     ensures err { OnErr result (frame.new ≡ frame.old) }
+    ensures popped { IfOk result (λ o. IfSome o (λ call. IsTaken frame.old (reverse call.arguments.items ++ receiver_value call.receiver ∷ []) frame.new)) }
 {
     let Some(arguments) = pop_arguments(alloc, &mut frame.operands, kinds)? else {
         return Ok(None)

@@ -8,11 +8,12 @@ ghost use Rattle.machine_values.specs.States.{is_known_object};
 ghost use Rattle.machine_frames.specs.Naming.{Naming, Faithful, reference};
 ghost use Rattle.machine_frames.specs.Effects.{AreKnown};
 ghost use Rattle.machine_frames.specs.Operands.{Works, WorksUnder, StaysKnown, IsKnownEffect};
+ghost use Rattle.machine_frames.specs.Undoing.{UndoesOn, is_plain};
 
 use crate::effect::Effect;
 use crate::kinds::is_same_kind;
 use crate::numbers::test_passes;
-use crate::operands::{has_room, pop_int, pop_kind, pop_reference};
+use crate::operands::{has_room, pop_int, pop_kind, pop_reference, put_all_back, reference_value};
 use class_machine::kinds::{Fault, Kind, Test};
 use machine_values::{Operands, Ref};
 
@@ -41,6 +42,7 @@ pub fn if_int(operands: &mut Operands, test: Test) -> Effect
     ensures done { Works operands.old operands.new result (λ s ops ls. definition.if_int test ops ls) }
     ensures within { StaysKnown operands.old operands.new }
     ensures known { IsKnownEffect operands.old result }
+    ensures plain { is_plain result ≡ true }
 {
     let Some(x) = pop_int(operands) else {
         return Effect::Broken
@@ -58,6 +60,7 @@ pub fn if_ints(operands: &mut Operands, test: Test) -> Effect
     ensures done { Works operands.old operands.new result (λ s ops ls. definition.if_ints test ops ls) }
     ensures within { StaysKnown operands.old operands.new }
     ensures known { IsKnownEffect operands.old result }
+    ensures plain { is_plain result ≡ true }
 {
     let Some(y) = pop_int(operands) else {
         return Effect::Broken
@@ -78,6 +81,7 @@ pub fn if_references(operands: &mut Operands, same: bool) -> Effect
     ensures done { (n : Naming) (count : ℕ) → Faithful n count → AreKnown count operands.old.values → WorksUnder n operands.old operands.new result (λ s ops ls. definition.if_references same ops ls) }
     ensures within { StaysKnown operands.old operands.new }
     ensures known { IsKnownEffect operands.old result }
+    ensures plain { is_plain result ≡ true }
 {
     let Some(b) = pop_reference(operands) else {
         return Effect::Broken
@@ -99,6 +103,7 @@ pub fn if_null(operands: &mut Operands, null: bool) -> Effect
     ensures done { Works operands.old operands.new result (λ s ops ls. definition.if_null null ops ls) }
     ensures within { StaysKnown operands.old operands.new }
     ensures known { IsKnownEffect operands.old result }
+    ensures plain { is_plain result ≡ true }
 {
     let Some(a) = pop_reference(operands) else {
         return Effect::Broken
@@ -114,6 +119,7 @@ pub fn if_null(operands: &mut Operands, null: bool) -> Effect
 pub fn enter(operands: &Operands) -> Effect
     ensures done { Works operands.now operands.now result (λ s ops ls. definition.enter s.room ops ls) }
     ensures known { IsKnownEffect operands.now result }
+    ensures plain { is_plain result ≡ true }
 {
     if has_room(operands, Kind::Reference) {
         Effect::Enter(0)
@@ -128,6 +134,7 @@ pub fn leave(operands: &mut Operands, kind: Option<Kind>, returns: Option<Kind>)
     ensures done { Works operands.old operands.new result (λ s ops ls. definition.leave kind returns ops) }
     ensures within { StaysKnown operands.old operands.new }
     ensures known { IsKnownEffect operands.old result }
+    ensures plain { is_plain result ≡ true }
 {
     match (kind, returns) {
         (None, None) => Effect::Leave(None),
@@ -151,10 +158,12 @@ pub fn throw(operands: &mut Operands) -> Effect
     ensures done { Works operands.old operands.new result (λ s ops ls. definition.throw ops) }
     ensures within { StaysKnown operands.old operands.new }
     ensures known { IsKnownEffect operands.old result }
+    ensures undone { UndoesOn operands.old operands.new result }
 {
     let Some(object) = pop_reference(operands) else {
         return Effect::Broken
     };
+    put_all_back(operands, &[reference_value(object)]);
     match object {
         Some(at) => Effect::Throw(at),
         None => Effect::Fail(Fault::NullPointer),

@@ -5,6 +5,7 @@ ghost use Rattle.class_machine.specs.Effect as definition;
 ghost use Rattle.machine_values.specs.States.{IsFrameWithin};
 ghost use Rattle.machine_frames.specs.Naming.{Naming, Faithful};
 ghost use Rattle.machine_frames.specs.Effects.{Does, Keeps, setting, is_effect_within, raises};
+ghost use Rattle.machine_frames.specs.Undoing.{Undoes};
 
 use crate::arithmetic::{
     binary_of_ints, binary_of_longs, compare_long, convert, divide_ints, divide_longs, negate_int,
@@ -23,12 +24,14 @@ use machine_values::Frame;
 
 /// Does what the instruction does to what the frame holds. The method of the frame has a result of
 /// that kind. It takes no memory.
+#[tactic(auto, using(crate::proofs::Undone::plain_undone, crate::proofs::Undone::frame_undone))]
 pub fn perform(frame: &mut Frame, basic: &Basic, result_kind: Option<Kind>) -> Effect
     ensures kept { Keeps frame.old frame.new }
     ensures done { (n : Naming) (count : ℕ) → Faithful n count → IsFrameWithin count frame.old → Does n (definition.basic_effect (setting frame.old result_kind) basic.now) frame.old frame.new result }
     ensures within { (count : ℕ) → IsFrameWithin count frame.old → IsFrameWithin count frame.new }
     ensures known { (count : ℕ) → IsFrameWithin count frame.old → is_effect_within count result ≡ true }
     ensures raised { raises result ≡ true → frame.new.locals ≡ frame.old.locals }
+    ensures undone { Undoes frame.old frame.new result }
 {
     let operands = &mut frame.operands;
     match *basic {

@@ -22,6 +22,7 @@ mod sizes;
 mod stack;
 mod storage;
 mod tokens;
+mod undoing;
 
 pub use calls::{Call, Receiver, call_on, call_static};
 pub use effect::{Effect, Request};
@@ -31,4 +32,5 @@ pub use named::{
 };
 pub use peeks::{can_call_static, can_put_static};
 pub use sizes::{pop_size, pop_sizes};
-pub use tokens::announce;
+pub use tokens::{announce, fill_in};
+pub use undoing::{put_back, put_call_back, put_sizes_back, restore};

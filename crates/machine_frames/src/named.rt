@@ -1,7 +1,7 @@
 //! What instructions that name something take from their frame (JVMS 3.11.5, 3.11.7). What they name
 //! is found elsewhere, and so is what comes of it.
 
-ghost use Rattle.std.specs.Prelude.{◌≡◌, ℕ, true, MatchOption, IfSome};
+ghost use Rattle.std.specs.Prelude.{◌≡◌, ℕ, true, [], ◌∷◌, MatchOption, IfSome};
 ghost use Rattle.class_machine.specs.Effect as definition;
 ghost use Rattle.class_machine.specs.Values.{has_room, kind_width};
 ghost use Rattle.class_machine.specs.declared.kinds.Access.TheVariants as Access;
@@ -10,6 +10,7 @@ ghost use Rattle.machine_values.specs.States.{is_known_object, IsFrameWithin};
 ghost use Rattle.machine_frames.specs.Naming.{Naming, held};
 ghost use Rattle.machine_frames.specs.Effects.{Does, operands_of};
 ghost use Rattle.machine_frames.specs.Named.{SwitchBreaks, Switches, QuestionBreaks, Questions, AccessBreaks, GetsField, PutsStatic, PutsField};
+ghost use Rattle.machine_frames.specs.Undoing.{reference_value, IsTaken};
 
 use crate::effect::Effect;
 use crate::operands;
@@ -35,6 +36,7 @@ pub fn pop_object(frame: &mut Frame) -> Option<Option<Ref>>
     ensures taken { MatchOption result (QuestionBreaks frame.old) (λ a. Questions frame.old a frame.new) }
     ensures within { (count : ℕ) → IsFrameWithin count frame.old → IsFrameWithin count frame.new }
     ensures known { IfSome result (λ a. (count : ℕ) → IsFrameWithin count frame.old → is_known_object count a ≡ true) }
+    ensures popped { IfSome result (λ a. IsTaken frame.old (reference_value a ∷ []) frame.new) }
 {
     operands::pop_reference(&mut frame.operands)
 }
@@ -64,6 +66,7 @@ pub fn get_field(frame: &mut Frame, kind: Kind) -> Option<Option<Ref>>
     ensures taken { MatchOption result (AccessBreaks Access.GetField kind frame.old) (λ a. GetsField kind frame.old a frame.new) }
     ensures within { (count : ℕ) → IsFrameWithin count frame.old → IsFrameWithin count frame.new }
     ensures known { IfSome result (λ a. (count : ℕ) → IsFrameWithin count frame.old → is_known_object count a ≡ true) }
+    ensures popped { IfSome result (λ a. IsTaken frame.old (reference_value a ∷ []) frame.new) }
 {
     let object = operands::pop_reference(&mut frame.operands)?;
     if operands::has_room(&frame.operands, kind) {
@@ -81,6 +84,7 @@ pub fn put_static(frame: &mut Frame, kind: Kind) -> Option<Value>
     ensures taken { MatchOption result (AccessBreaks Access.PutStatic kind frame.old) (λ v. PutsStatic kind frame.old v frame.new) }
     ensures within { (count : ℕ) → IsFrameWithin count frame.old → IsFrameWithin count frame.new }
     ensures known { IfSome result (λ v. (count : ℕ) → IsFrameWithin count frame.old → is_settled count v ≡ true) }
+    ensures popped { IfSome result (λ v. IsTaken frame.old (v ∷ []) frame.new) }
 {
     operands::pop_kind(&mut frame.operands, kind)
 }
@@ -101,6 +105,7 @@ pub fn put_field(frame: &mut Frame, kind: Kind) -> Option<Written>
     ensures within { (count : ℕ) → IsFrameWithin count frame.old → IsFrameWithin count frame.new }
     ensures known { IfSome result (λ w. (count : ℕ) → IsFrameWithin count frame.old → is_known_object count w.object ≡ true) }
     ensures settled { IfSome result (λ w. (count : ℕ) → IsFrameWithin count frame.old → is_settled count w.value ≡ true) }
+    ensures popped { IfSome result (λ w. IsTaken frame.old (w.value ∷ reference_value w.object ∷ []) frame.new) }
 {
     let value = operands::pop_kind(&mut frame.operands, kind)?;
     let object = operands::pop_reference(&mut frame.operands)?;

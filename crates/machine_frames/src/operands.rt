@@ -1,7 +1,7 @@
 //! Pops from the operands and pushes on them (JVMS 3.6.2).
 #![tactic(auto, using(crate::proofs::Known::still_known, crate::proofs::Known::known_before))]
 
-ghost use Rattle.std.specs.Prelude.{◌≡◌, ℕ, [], ◌∷◌, MatchOption, IfSome};
+ghost use Rattle.std.specs.Prelude.{◌≡◌, ℕ, true, [], ◌∷◌, reverse, MatchOption, IfSome};
 ghost use Rattle.std.specs.Bool.{MatchBool};
 ghost use Rattle.class_machine.specs.Effect as definition;
 ghost use Rattle.class_machine.specs.Values.{has_room, kind_width};
@@ -9,6 +9,8 @@ ghost use Rattle.class_machine.specs.Values as machine;
 ghost use Rattle.machine_values.specs.declared.values.Value.TheVariants as values;
 ghost use Rattle.machine_frames.specs.Naming.{Naming, values as values_of};
 ghost use Rattle.machine_frames.specs.Operands.{Pushes, Overflows, LacksInt, LacksLong, PopsReference, LacksReference, PopsKind, LacksKind, PopsNarrow, LacksNarrow, PopsSlots, LacksSlots, Puts, LacksRoom, PushesOn, Works, IsFree, StaysKnown, PushesKnown, PutsKnown, IsKnownReference, IsSettledValue, IsKnownValue, AreKnownIn};
+ghost use Rattle.machine_frames.specs.Undoing.{reference_value, TakesAll, is_plain};
+ghost use Rattle.machine_values.specs.Stacks.{Stack};
 
 use crate::effect::Effect;
 use crate::kinds::{is_of, kind_width};
@@ -39,6 +41,7 @@ pub fn push_on(operands: &mut Operands, held: Value) -> Effect
     ensures done { PushesOn operands.old held operands.new result }
     ensures within { PushesKnown operands.old held operands.new }
     ensures known { IsFree result }
+    ensures plain { is_plain result ≡ true }
 {
     if push(operands, held) {
         Effect::On
@@ -53,6 +56,7 @@ pub fn push_int(operands: &mut Operands, n: i32) -> Effect
     ensures done { Works operands.old operands.new result (λ s ops ls. definition.push_on s.room (machine.Plain (machine.Int n)) ops ls) }
     ensures within { StaysKnown operands.old operands.new }
     ensures known { IsFree result }
+    ensures plain { is_plain result ≡ true }
 {
     push_on(operands, Value::Int(n))
 }
@@ -63,6 +67,7 @@ pub fn push_long(operands: &mut Operands, n: i64) -> Effect
     ensures done { Works operands.old operands.new result (λ s ops ls. definition.push_on s.room (machine.Plain (machine.Long n)) ops ls) }
     ensures within { StaysKnown operands.old operands.new }
     ensures known { IsFree result }
+    ensures plain { is_plain result ≡ true }
 {
     push_on(operands, Value::Long(n))
 }
@@ -73,6 +78,7 @@ pub fn pop(operands: &mut Operands) -> Option<Value>
     ensures popped { MatchOption result ((operands.old.values ≡ []) × (operands.new.values ≡ [])) (λ v. operands.old.values ≡ v ∷ operands.new.values) }
     ensures within { StaysKnown operands.old operands.new }
     ensures known { IfSome result (λ v. IsKnownValue operands.old v) }
+    ensures taken { IfSome result (λ v. TakesAll operands.old (v ∷ []) operands.new) }
 {
     operands.pop()
 }
@@ -81,6 +87,7 @@ pub fn pop_int(operands: &mut Operands) -> Option<i32>
     ensures room { operands.new.room ≡ operands.old.room }
     ensures popped { MatchOption result (LacksInt operands.old) (λ k. operands.old.values ≡ values.Int k ∷ operands.new.values) }
     ensures within { StaysKnown operands.old operands.new }
+    ensures taken { IfSome result (λ k. TakesAll operands.old (values.Int k ∷ []) operands.new) }
 {
     match pop(operands)? {
         Value::Int(n) => Some(n),
@@ -92,6 +99,7 @@ pub fn pop_long(operands: &mut Operands) -> Option<i64>
     ensures room { operands.new.room ≡ operands.old.room }
     ensures popped { MatchOption result (LacksLong operands.old) (λ k. operands.old.values ≡ values.Long k ∷ operands.new.values) }
     ensures within { StaysKnown operands.old operands.new }
+    ensures taken { IfSome result (λ k. TakesAll operands.old (values.Long k ∷ []) operands.new) }
 {
     match pop(operands)? {
         Value::Long(n) => Some(n),
@@ -105,6 +113,7 @@ pub fn pop_reference(operands: &mut Operands) -> Option<Option<Ref>>
     ensures popped { MatchOption result (LacksReference operands.old) (λ a. PopsReference operands.old a operands.new) }
     ensures within { StaysKnown operands.old operands.new }
     ensures known { IfSome result (λ a. IsKnownReference operands.old a) }
+    ensures taken { IfSome result (λ a. TakesAll operands.old (reference_value a ∷ []) operands.new) }
 {
     match pop(operands)? {
         Value::Null => Some(None),
@@ -120,6 +129,7 @@ pub fn pop_kind(operands: &mut Operands, kind: Kind) -> Option<Value>
     ensures popped { MatchOption result (LacksKind kind operands.old) (λ v. PopsKind kind operands.old v operands.new) }
     ensures within { StaysKnown operands.old operands.new }
     ensures known { IfSome result (λ v. IsSettledValue operands.old v) }
+    ensures taken { IfSome result (λ v. TakesAll operands.old (v ∷ []) operands.new) }
 {
     let held = pop(operands)?;
     if is_of(kind, &held) { Some(held) } else { None }
@@ -188,4 +198,24 @@ pub fn has_room(operands: &Operands, kind: Kind) -> bool
     ensures { (n : Naming) (method : ℕ) → result ≡ has_room operands.now.room (kind_width kind) (values_of n method operands.now.values) }
 {
     operands.has_room(kind_width(kind))
+}
+
+/// A reference as a value.
+pub fn reference_value(object: Option<Ref>) -> Value
+    ensures { result ≡ reference_value object }
+{
+    match object {
+        Some(at) => Value::Reference(at),
+        None => Value::Null,
+    }
+}
+
+/// Puts values back that were taken, the last one topmost.
+pub fn put_all_back(operands: &mut Operands, taken: &[Value])
+    ensures room { operands.new.room ≡ operands.old.room }
+    ensures put { (s : Stack) → TakesAll s (reverse taken.now) operands.old → operands.new ≡ s }
+{
+    for held in taken {
+        let _there_was_room = operands.push(*held);
+    }
 }

@@ -1,9 +1,11 @@
 //! The sizes of new arrays (JVMS 3.11.5).
 
-ghost use Rattle.std.specs.Prelude.{◌≡◌, ℕ, [], ◌∷◌, MatchOption, IfOk, OnErr};
+ghost use Rattle.std.specs.Prelude.{◌≡◌, ℕ, [], ◌∷◌, map, reverse, MatchOption, IfOk, IfSome, OnErr};
+ghost use Rattle.machine_values.specs.declared.values.Value.TheVariants.{Int};
 ghost use Rattle.machine_values.specs.States.{IsFrameWithin};
 ghost use Rattle.machine_frames.specs.Operands.{StaysKnown};
 ghost use Rattle.machine_frames.specs.Sizes.{PopsInts, LacksInts, Sizes, SizesBreak};
+ghost use Rattle.machine_frames.specs.Undoing.{IsTaken, TakesAll};
 
 use crate::operands;
 use machine_values::{Frame, Operands};
@@ -16,6 +18,7 @@ pub fn pop_size(frame: &mut Frame) -> Option<i32>
     ensures room { frame.new.operands.room ≡ frame.old.operands.room }
     ensures taken { MatchOption result (SizesBreak 1 frame.old) (λ x. Sizes 1 frame.old (x ∷ []) frame.new) }
     ensures within { (count : ℕ) → IsFrameWithin count frame.old → IsFrameWithin count frame.new }
+    ensures popped { IfSome result (λ x. IsTaken frame.old (Int x ∷ []) frame.new) }
 {
     operands::pop_int(&mut frame.operands)
 }
@@ -30,6 +33,7 @@ fn pop_ints(
     ensures taken { IfOk result (λ o. MatchOption o (LacksInts count operands.old) (λ xs. PopsInts count operands.old xs.items operands.new)) }
     ensures within { StaysKnown operands.old operands.new }
     ensures err { OnErr result (operands.new ≡ operands.old) }
+    ensures popped { IfOk result (λ o. IfSome o (λ xs. TakesAll operands.old (reverse (map Int xs.items)) operands.new)) }
 {
     let mut sizes = vec![in alloc; 0; count as usize]?;
     let mut left = count as usize;
@@ -58,6 +62,7 @@ pub fn pop_sizes(
     ensures taken { IfOk result (λ o. MatchOption o (SizesBreak count frame.old) (λ xs. Sizes count frame.old xs.items frame.new)) }
     ensures within { (many : ℕ) → IsFrameWithin many frame.old → IsFrameWithin many frame.new }
     ensures err { OnErr result (frame.new ≡ frame.old) }
+    ensures popped { IfOk result (λ o. IfSome o (λ xs. IsTaken frame.old (reverse (map Int xs.items)) frame.new)) }
 {
     pop_ints(alloc, &mut frame.operands, count)
 }

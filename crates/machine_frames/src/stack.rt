@@ -1,9 +1,10 @@
 //! Moves among the operands (JVMS 3.11.6).
 #![tactic(auto, using(crate::proofs::Known::still_known, crate::proofs::Known::known_before, crate::proofs::Known::pushed, crate::proofs::Known::put, crate::proofs::Known::group_before))]
 
-ghost use Rattle.std.specs.Prelude.{◌≡◌, ℕ};
+ghost use Rattle.std.specs.Prelude.{◌≡◌, ℕ, true};
 ghost use Rattle.class_machine.specs.Effect as definition;
 ghost use Rattle.machine_frames.specs.Operands.{Works, StaysKnown, IsFree};
+ghost use Rattle.machine_frames.specs.Undoing.{is_plain};
 
 use crate::effect::Effect;
 use crate::operands::{pop_narrow, pop_slots, push, push_int, push_long, push_on, put};
@@ -16,6 +17,7 @@ pub fn constant(operands: &mut Operands, constant: Constant) -> Effect
     ensures done { Works operands.old operands.new result (λ s ops ls. definition.constant s.room (definition.held_constant constant) ops ls) }
     ensures within { StaysKnown operands.old operands.new }
     ensures known { IsFree result }
+    ensures plain { is_plain result ≡ true }
 {
     match constant {
         Constant::Null => push_on(operands, Value::Null),
@@ -32,6 +34,7 @@ pub fn drop_slots(operands: &mut Operands, slots: Slots) -> Effect
     ensures done { Works operands.old operands.new result (λ s ops ls. definition.drop_slots slots ops ls) }
     ensures within { StaysKnown operands.old operands.new }
     ensures known { IsFree result }
+    ensures plain { is_plain result ≡ true }
 {
     match pop_slots(operands, slots) {
         Some(_) => Effect::On,
@@ -45,6 +48,7 @@ pub fn duplicate(operands: &mut Operands, slots: Slots, under: Slots) -> Effect
     ensures done { Works operands.old operands.new result (λ s ops ls. definition.duplicate s.room slots under ops ls) }
     ensures within { StaysKnown operands.old operands.new }
     ensures known { IsFree result }
+    ensures plain { is_plain result ≡ true }
 {
     let Some(top) = pop_slots(operands, slots) else {
         return Effect::Broken
@@ -71,6 +75,7 @@ pub fn exchange(operands: &mut Operands) -> Effect
     ensures done { Works operands.old operands.new result (λ s ops ls. definition.exchange s.room ops ls) }
     ensures within { StaysKnown operands.old operands.new }
     ensures known { IsFree result }
+    ensures plain { is_plain result ≡ true }
 {
     let Some(top) = pop_narrow(operands) else {
         return Effect::Broken

@@ -7,6 +7,7 @@ ghost use Rattle.class_machine.specs.ClassFiles.{Place};
 ghost use Rattle.machine_frames.specs.Naming.{Naming, values, locals as named};
 ghost use Rattle.machine_frames.specs.Effects.{effect_in, raises, AreKnown, AreKnownLocals};
 ghost use Rattle.machine_frames.specs.Operands.{IsFree};
+ghost use Rattle.machine_frames.specs.Undoing.{is_plain};
 
 use crate::effect::Effect;
 use crate::kinds::{loads, stores};
@@ -21,6 +22,7 @@ pub fn load(operands: &mut Operands, locals: &Locals, kind: Kind, index: u16) ->
     ensures done { (n : Naming) (method : ℕ) → effect_in n method result (values n method operands.new.values) (named n method locals.now) ≡ definition.load operands.old.room kind index (values n method operands.old.values) (named n method locals.now) }
     ensures within { (count : ℕ) → AreKnown count operands.old.values → AreKnownLocals count locals.now → AreKnown count operands.new.values }
     ensures known { IsFree result }
+    ensures plain { is_plain result ≡ true }
 {
     let Some(held) = read_local(locals, index) else {
         return Effect::Broken
@@ -40,6 +42,7 @@ pub fn store(operands: &mut Operands, locals: &mut Locals, kind: Kind, index: u1
     ensures locals_within { (count : ℕ) → AreKnown count operands.old.values → AreKnownLocals count locals.old → AreKnownLocals count locals.new }
     ensures known { IsFree result }
     ensures calm { raises result ≡ false }
+    ensures plain { is_plain result ≡ true }
 {
     let Some(held) = pop(operands) else {
         return Effect::Broken
@@ -61,6 +64,7 @@ pub fn increment(locals: &mut Locals, index: u16, by: i16) -> Effect
     ensures within { (count : ℕ) → AreKnownLocals count locals.old → AreKnownLocals count locals.new }
     ensures known { IsFree result }
     ensures calm { raises result ≡ false }
+    ensures plain { is_plain result ≡ true }
 {
     let Some(Value::Int(n)) = read_local(locals, index) else {
         return Effect::Broken
@@ -76,6 +80,7 @@ pub fn increment(locals: &mut Locals, index: u16, by: i16) -> Effect
 pub fn go_back(locals: &Locals, index: u16) -> Effect
     ensures done { (n : Naming) (method : ℕ) (ops : List (machine.Value Place)) → effect_in n method result ops (named n method locals.now) ≡ definition.go_back index ops (named n method locals.now) }
     ensures known { IsFree result }
+    ensures plain { is_plain result ≡ true }
 {
     match read_local(locals, index) {
         Some(Value::ReturnAddress(pc)) => Effect::Back(pc),

@@ -1,13 +1,17 @@
 //! Tokens of objects that aren't made yet (JVMS 6, `new`).
 
-ghost use Rattle.std.specs.Prelude.{◌≡◌, ℕ, ◌+◌, ◌≤◌, ◌^◌, max, MatchOption, IfOk, OnErr};
+ghost use Rattle.std.specs.Prelude.{◌≡◌, ℕ, ◌+◌, ◌<◌, ◌≤◌, ◌^◌, map, max, MatchOption, IfOk, OnErr};
 ghost use Rattle.std.specs.Bool.{MatchBool};
+ghost use Rattle.class_machine.specs.Values as machine;
+ghost use Rattle.class_machine.specs.Values.{filled_in, filled_local};
 ghost use Rattle.machine_values.specs.States.{IsFrameWithin};
+ghost use Rattle.machine_frames.specs.Naming.{Naming, object as named};
+ghost use Rattle.machine_frames.specs.Effects.{operands_of, locals_of};
 ghost use Rattle.machine_frames.specs.Tokens.{number_of, number_in, highest, highest_in, Announces, AnnounceBreaks, IsSpent};
 
 use crate::operands::push;
 use aj_names::ClassId;
-use machine_values::{Frame, Local, Value};
+use machine_values::{Frame, Local, Ref, Value};
 use std::alloc::AllocError;
 
 // The larger one.
@@ -92,4 +96,16 @@ pub fn announce(frame: &mut Frame, class: ClassId) -> Result<bool, AllocError>
         return Err(AllocError)
     };
     Ok(push(&mut frame.operands, Value::Token(class, number)))
+}
+
+/// Every copy of the token of this number becomes the object (JVMS 6, `new`). It takes no memory.
+pub fn fill_in(frame: &mut Frame, number: u64, object: Ref)
+    ensures rest { frame.new ≡ record frame.old { operands = frame.new.operands; locals = frame.new.locals } }
+    ensures room { frame.new.operands.room ≡ frame.old.operands.room }
+    ensures operands { (n : Naming) → operands_of n frame.new ≡ map (filled_in number (machine.Reference (named n object))) (operands_of n frame.old) }
+    ensures locals { (n : Naming) → locals_of n frame.new ≡ map (filled_local number (machine.Reference (named n object))) (locals_of n frame.old) }
+    ensures within { (count : ℕ) → object.0 < count → IsFrameWithin count frame.old → IsFrameWithin count frame.new }
+{
+    frame.operands.fill_in(number, object);
+    frame.locals.fill_in(number, object);
 }

@@ -7,3 +7,5 @@ pub mod Stores
 pub mod Making
 pub mod Casts
 pub mod Reading
+pub mod Writing
+pub mod Fills

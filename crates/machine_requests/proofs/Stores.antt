@@ -51,17 +51,17 @@ type_at (Some (Literal units)) p type h = absurd (none-some type h)
 type_at (Some (ClassObject other)) p type h = absurd (none-some type h)
 type_at None p type h = absurd (none-some type h)
 
-map_set : (f : Value → machine.Held) (xs : List Value) (k : ℕ) (x : Value) → map f (slice_set xs k x) ≡ slice_set (map f xs) k (f x)
+pub map_set : (f : Value → machine.Held) (xs : List Value) (k : ℕ) (x : Value) → map f (slice_set xs k x) ≡ slice_set (map f xs) k (f x)
 map_set f [] k x = refl
 map_set f (y ∷ xs) zero x = refl
 map_set f (y ∷ xs) (suc k) x = ap (λ l. f y ∷ l) (map_set f xs k x)
 
-all_set : (n : ℕ) (xs : List Value) (k : ℕ) (x : Value) → AllByRecursion (Settled n) xs → Settled n x → AllByRecursion (Settled n) (slice_set xs k x)
+pub all_set : (n : ℕ) (xs : List Value) (k : ℕ) (x : Value) → AllByRecursion (Settled n) xs → Settled n x → AllByRecursion (Settled n) (slice_set xs k x)
 all_set n [] k x h j = tt
 all_set n (y ∷ xs) zero x h j = (j, h.1)
 all_set n (y ∷ xs) (suc k) x h j = (h.0, all_set n xs k x h.1 j)
 
-all_at : (n : ℕ) (cs : List Content) (at : ℕ) → AllByRecursion (IsSettledContent n) cs → AllByRecursion (Settled n) (values_of (slice_get cs at))
+pub all_at : (n : ℕ) (cs : List Content) (at : ℕ) → AllByRecursion (IsSettledContent n) cs → AllByRecursion (Settled n) (values_of (slice_get cs at))
 all_at n [] at h = tt
 all_at n (Values vs ∷ cs) zero h = h.0
 all_at n (Text units ∷ cs) zero h = tt

@@ -8,3 +8,4 @@ pub mod Monitors
 pub mod Growing
 pub mod Statics
 pub mod Objects
+pub mod Texts

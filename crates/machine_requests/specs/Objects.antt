@@ -1,10 +1,11 @@
 -- Objects, their classes and their fields.
-use Rattle.std.specs.Prelude.{◌≡◌, ℕ, suc, Bool, true, if◌then◌else◌, nat_lt, List, [], ◌∷◌, map, length, slice_get, Option, Some, None}
+use Rattle.std.specs.Prelude.{◌≡◌, ℕ, suc, ◌<◌, Bool, true, false, if◌then◌else◌, nat_lt, List, [], ◌∷◌, map, length, slice_get, Option, Some, None}
 use Rattle.std.specs.Option.{option_map}
 use Rattle.aj_names.specs.declared.types.FieldType.{FieldType}
 use Rattle.class_file.specs.Pool.{Reference}
-use Rattle.class_heads.specs.Hierarchy.{name_at}
-use Rattle.class_machine.specs.Values.{class_of}
+use Rattle.class_heads.specs.Hierarchy.{name_at, is_array}
+use Rattle.class_machine.specs.declared.kinds.Element.{Element}
+use Rattle.class_machine.specs.Values.{class_of, class_class}
 use Rattle.class_machine.specs.Descriptors.{element_of}
 use Rattle.class_machine.specs.Classes.{same_member}
 use Rattle.class_machine.specs.Answers.{declared}
@@ -17,8 +18,9 @@ use Rattle.machine_values.specs.declared.names.Maker.TheVariants.{Class}
 use Rattle.machine_values.specs.declared.names.Name.{Name}
 use Rattle.machine_values.specs.declared.names.Name.TheVariants.{Made}
 use Rattle.machine_values.specs.declared.content.Content.{Content}
-use Rattle.machine_values.specs.declared.content.Content.TheVariants.{Values}
-use Rattle.machine_values.specs.Standing.{name_of}
+use Rattle.machine_values.specs.declared.content.Content.TheVariants.{Values, Text}
+use Rattle.machine_values.specs.First.{first_value}
+use Rattle.machine_values.specs.Standing.{name_in, name_of}
 use Rattle.machine_values.specs.Things.{Things}
 use Rattle.machine_requests.specs.declared.reply.Reply.{Reply}
 use Rattle.machine_requests.specs.declared.reply.Reply.TheVariants.{Gives}
@@ -44,6 +46,11 @@ pub record IsNew (s : Setting) (class : List ℕ) (w : World) (things : Things) 
   pub within : nat_lt at.0 (length things.names) ≡ true
   pub shares : Shares s things others (worlds.make s.classes w class).1
 
+-- what a new object holds
+abbrev pub new_content : Bool → List FieldType → Content
+new_content true types = Text []
+new_content false types = Values (map first_value types)
+
 abbrev pub Makes : ℕ → Bool → List FieldType → Things → Others → Things → Ref → Type 0
 Makes number text types before others after at =
     (s : Setting) (w : World) → IsClass number text types s → AreDistinct s.heads → Shares s before others w → IsNew s (name_at s.heads number) w after others at
@@ -68,7 +75,25 @@ abbrev pub field_place : List Reference → Reference → Option ℕ
 field_place [] r = None
 field_place (f ∷ fields) r = if same_member f r then Some 0 else option_map suc (field_place fields r)
 
--- whether the object is one of the class that declares the field, and the field's number among those of the object
+-- whether the object is one of the class that declares the field, and then the field's number among those of the object
 pub record HasField (things : Things) (object : Option Ref) (r : Reference) (instance : Bool) (index : ℕ) (s : Setting) : Type 0 where
   pub is : (at : Ref) → object ≡ Some at → s.classes.is_subtype (class_of (name_of s.heads things.names at)) (declared s.classes r).class ≡ instance
-  pub place : (at : Ref) → object ≡ Some at → field_place (s.classes.fields (class_of (name_of s.heads things.names at))) (declared s.classes r) ≡ Some index
+  pub place : (at : Ref) → object ≡ Some at → instance ≡ true → field_place (s.classes.fields (class_of (name_of s.heads things.names at))) (declared s.classes r) ≡ Some index
+
+-- the field holds such values
+pub record HoldsSuch (r : Reference) (e : Element) (s : Setting) : Type 0 where
+  pub element : element_of (declared s.classes r).member.descriptor ≡ e
+
+-- each object has a value for each field of its class
+pub record AreFilled (things : Things) (s : Setting) : Type 0 where
+  pub each : (at : ℕ) → at < length things.names → length (fields_at things at) ≡ length (s.classes.fields (class_of (name_in s.heads (slice_get things.names at))))
+
+-- texts, arrays and what stands for a class have no fields
+pub record BareTypes (s : Setting) : Type 0 where
+  pub texts : (class : List ℕ) → is_text_class class ≡ true → s.classes.fields class ≡ []
+  pub arrays : (class : List ℕ) → is_array class ≡ true → s.classes.fields class ≡ []
+  pub classes : s.classes.fields class_class ≡ []
+
+-- where each object had them before, each has them then
+abbrev pub StaysFilled : Things → Things → Setting → Type 0
+StaysFilled before after s = BareTypes s → length before.contents ≡ length before.names → AreFilled before s → AreFilled after s

@@ -8,7 +8,8 @@ ghost use Rattle.machine_values.specs.declared.values.Value.TheVariants.{Int};
 ghost use Rattle.class_machine.specs.Effect.{ArrayLength, ArrayLoad, ArrayStore};
 ghost use Rattle.machine_values.specs.States.{is_known_object};
 ghost use Rattle.machine_requests.specs.Arrays.{array_type, index_in, Holds};
-ghost use Rattle.machine_requests.specs.Shares.{Others};
+ghost use Rattle.machine_requests.specs.Objects.{AreFilled};
+ghost use Rattle.machine_requests.specs.Shares.{Others, Setting};
 ghost use Rattle.machine_requests.specs.Replies.{IsAnswer, IsAnswerWhere, object};
 
 use crate::elements::{array_element, kept_value, serves};
@@ -94,6 +95,7 @@ pub fn array_store(
     requires settled { Settled (length heap.old.names) value }
     ensures answer { (others : Others) → IsAnswerWhere (Holds heap.old array value fits) heap.old others (λ s names. ArrayStore element (object s names array) index (held s.heads names value)) heap.new others result }
     ensures names { heap.new.names ≡ heap.old.names }
+    ensures filled { (s : Setting) → AreFilled heap.old s → AreFilled heap.new s }
 {
     let Some(at) = array else {
         return Reply::Faults(Fault::NullPointer);

@@ -17,10 +17,11 @@ mod statics;
 mod types;
 
 pub use arrays::{array_length, array_load, array_store};
-pub use fields::get_field;
+pub use fields::{get_field, put_field};
 pub use laws::{
-    class_names_are_plain, constant_shares, due_stays, frames_stay, make_shares, makers_tell,
-    places_tell, represents, store_shares, values_stay,
+    class_names_are_plain, constant_shares, due_stays, fields_read, frames_stay, literal_filled,
+    make_shares, makers_tell, places_tell, represents, store_shares, text_filled, texts_read,
+    values_stay,
 };
 pub use monitors::{enter_monitor, leave_monitor};
 pub use new_objects::{class_object, make, make_array};

@@ -4,8 +4,10 @@ ghost use Rattle.std.specs.Prelude.{◌≡◌, ◌≤ℤ◌, pos, ◌++◌, [], 
 ghost use Rattle.class_machine.specs.Effect.{LoadClass, MakeArray};
 ghost use Rattle.machine_values.specs.Types.{type_name};
 ghost use Rattle.machine_requests.specs.Telling.{is_array_type, is_class_type};
-ghost use Rattle.machine_requests.specs.Objects.{Makes};
-ghost use Rattle.machine_requests.specs.Shares.{Others};
+ghost use Rattle.machine_requests.specs.Objects.{IsClass, Makes, new_content, StaysFilled};
+ghost use Rattle.machine_values.specs.declared.names.Maker.TheVariants.{Class};
+ghost use Rattle.machine_values.specs.Things.{with_made};
+ghost use Rattle.machine_requests.specs.Shares.{Others, Setting};
 ghost use Rattle.machine_requests.specs.Replies.{IsAnswer, IsLonger};
 
 use crate::reply::Reply;
@@ -29,6 +31,7 @@ pub fn make_array(heap: &mut Heap, class: &FieldType, size: i32) -> Result<Reply
     ensures ok { IfOk result (λ reply. (others : Others) (named : Option (List ℕ)) → IsAnswer heap.old others (λ s names. MakeArray named (type_name class.now) (size ∷ [])) heap.new others reply) }
     ensures names { IsLonger heap.old heap.new }
     ensures err { OnErr result (heap.new ≡ heap.old) }
+    ensures filled { IfOk result (λ reply. (s : Setting) → StaysFilled heap.old heap.new s) }
 {
     if size < 0 {
         return Ok(Reply::Faults(Fault::NegativeArraySize));
@@ -45,6 +48,7 @@ pub fn class_object(heap: &mut Heap, class: &FieldType) -> Result<Reply, AllocEr
     ensures ok { IfOk result (λ reply. (others : Others) → IsAnswer heap.old others (λ s names. LoadClass (type_name class.now)) heap.new others reply) }
     ensures names { IsLonger heap.old heap.new }
     ensures err { OnErr result (heap.new ≡ heap.old) }
+    ensures filled { IfOk result (λ reply. (s : Setting) → StaysFilled heap.old heap.new s) }
 {
     let at = heap.class_object(class)?;
     Ok(Reply::Gives(Value::Reference(at)))
@@ -59,9 +63,11 @@ pub fn make(
     text: bool,
     fields: &[FieldType],
 ) -> Result<Ref, AllocError>
+    ensures added { IfOk result (λ at. (at.0, heap.new) ≡ with_made heap.old (Class class) (new_content text fields.now)) }
     ensures ok { IfOk result (λ at. (others : Others) → Makes class.0 text fields.now heap.old others heap.new at) }
     ensures names { IsLonger heap.old heap.new }
     ensures err { OnErr result (heap.new ≡ heap.old) }
+    ensures filled { IfOk result (λ at. (s : Setting) → IsClass class.0 text fields.now s → StaysFilled heap.old heap.new s) }
 {
     if text {
         heap.make_text(class, &[])

@@ -1,7 +1,10 @@
 -- Operands with the room that they have (JVMS 3.6.2).
-use Rattle.std.specs.Prelude.{◌≡◌, ℕ, ◌+◌, ◌<◌, ◌≤◌, Bool, true, false, if◌then◌else◌, List, [], ◌∷◌}
+use Rattle.std.specs.Prelude.{◌≡◌, ℕ, ◌+◌, ◌<◌, ◌≤◌, ◌==◌, Bool, true, false, if◌then◌else◌, List, [], ◌∷◌}
+use Rattle.machine_values.specs.declared.values.Ref.{Ref}
 use Rattle.machine_values.specs.declared.values.Value.{Value}
-use Rattle.machine_values.specs.declared.values.Value.TheVariants.{Long, Double}
+use Rattle.machine_values.specs.declared.values.Value.TheVariants.{Long, Double, Token, Reference}
+use Rattle.machine_values.specs.declared.values.Local.{Local}
+use Rattle.machine_values.specs.declared.values.Local.TheVariants.{Holds}
 
 -- the values, the last pushed first, and how many slots they may take
 pub record Stack : Type 0 where
@@ -34,3 +37,14 @@ pub record Pushes (s : Stack) (v : Value) (t : Stack) : Type 0 where
 pub record Overflows (s : Stack) (v : Value) (t : Stack) : Type 0 where
   pub full : s.room < width v + weight s.values
   pub kept : t.values ≡ s.values
+
+-- ---- tokens
+
+-- the value once the object of the token of this number is made
+abbrev pub filled_in : ℕ → Ref → Value → Value
+filled_in number object (Token class n) = if n == number then Reference object else Token class n
+filled_in number object v = v
+
+abbrev pub filled_local : ℕ → Ref → Local → Local
+filled_local number object (Holds v) = Holds (filled_in number object v)
+filled_local number object l = l

@@ -1,12 +1,16 @@
 //! The heap.
 
-ghost use Rattle.std.specs.Prelude.{◌≡◌, ◌<◌, ◌++◌, [], None, Some, true, length, map, replicate, slice_get, slice_set, is_some, IfOk, OnOk, OnErr};
+ghost use Rattle.std.specs.Prelude.{◌≡◌, ◌≢◌, ◌<◌, ◌-◌, ◌++◌, List, [], ◌∷◌, cond, None, Some, true, length, map, replicate, take, slice_get, slice_set, is_some, IfOk, OnOk, OnErr};
 ghost use Rattle.std.specs.Option.{unwrap_or};
 ghost use Rattle.machine_values.specs.declared.names.Maker.TheVariants.{Class, Array};
 ghost use Rattle.machine_values.specs.declared.names.Name.TheVariants.{Literal, ClassObject};
 ghost use Rattle.machine_values.specs.declared.content.Content.TheVariants.{Values, Text, Fixed};
 ghost use Rattle.machine_values.specs.First.{first_value, first_element};
-ghost use Rattle.machine_values.specs.Things.{nothing, with_thing, made, with_made, place_of, with_constant, is_constant, changed, values_at, text_at, units_at};
+ghost use Rattle.indexmap.specs.IndexMap.{get};
+ghost use Rattle.machine_values.specs.declared.names.Maker.{Maker as MakerOf};
+ghost use Rattle.machine_values.specs.declared.names.Name.{Name as NameOf};
+ghost use Rattle.machine_values.specs.Tables.{IsCounted, AreCounted, ArePlaced};
+ghost use Rattle.machine_values.specs.Things.{same_maker, same_name, nothing, with_thing, made, with_made, place_of, with_constant, is_constant, changed, values_at, text_at, units_at};
 
 use crate::content::Content;
 use crate::fields::Fields;
@@ -44,6 +48,49 @@ impl Model for Heap {
 
 // The greatest place.
 const MOST: usize = 4294967295;
+
+// One less was made of it.
+fn count_down(counts: &mut IndexMap<Maker, u64>, maker: Maker)
+    requires { 0 < unwrap_or (get same_maker counts.old maker) 0 }
+    ensures { (other : MakerOf) → get same_maker counts.new other ≡ cond (same_maker maker other) (Some (unwrap_or (get same_maker counts.old maker) 0 - 1)) (get same_maker counts.old other) }
+{
+    let count = counts.get(&maker).copied().unwrap_or(0);
+    match counts.insert(maker, count - 1) {
+        Ok(_old) => {}
+        Err(_failed) => unreachable!(),
+    }
+}
+
+// The name no longer has the place, if that was its place.
+fn forget_place(places: &mut IndexMap<Name, u32>, name: &Name, place: usize)
+    ensures at { get same_name places.old name.now ≡ Some place → (other : NameOf) → get same_name places.new other ≡ cond (same_name name.now other) None (get same_name places.old other) }
+    ensures elsewhere { get same_name places.old name.now ≢ Some place → (other : NameOf) → get same_name places.new other ≡ get same_name places.old other }
+{
+    let Some(found) = places.get(name).copied() else {
+        return;
+    };
+    if found as usize == place {
+        let _place = places.swap_remove(name);
+    }
+}
+
+// The object of the name is no longer at the last place, this one.
+fn forget(
+    counts: &mut IndexMap<Maker, u64>,
+    places: &mut IndexMap<Name, u32>,
+    name: Name,
+    place: usize,
+)
+    requires { IsCounted name counts.old }
+    ensures counted { (names : List NameOf) → AreCounted (names ++ name ∷ []) counts.old → AreCounted names counts.new }
+    ensures placed { (names : List NameOf) → length names ≡ place → ArePlaced (names ++ name ∷ []) places.old → ArePlaced names places.new }
+{
+    match name {
+        Name::Made(maker, _number) => count_down(counts, maker),
+        Name::Literal(units) => forget_place(places, &Name::Literal(units), place),
+        Name::ClassObject(class) => forget_place(places, &Name::ClassObject(class), place),
+    }
+}
 
 impl Heap {
     /// A heap without objects. It takes no memory.
@@ -125,6 +172,41 @@ impl Heap {
         match self.find(&name) {
             Some(place) => Ok(Ref(place)),
             None => self.add_fixed(name),
+        }
+    }
+
+    // Forgets the object at the last place.
+    fn forget_last(&mut self)
+        ensures names { self.new.names ≡ take (length self.old.names - 1) self.old.names }
+        ensures contents { self.new.contents ≡ take (length self.old.contents - 1) self.old.contents }
+    {
+        let Some(name) = self.names.pop() else {
+            return;
+        };
+        let _content = self.contents.pop();
+        forget(&mut self.counts, &mut self.places, name, self.names.len());
+    }
+
+    /// Gives an object a text. A call that fails leaves the heap as it was.
+    pub fn set_text(&mut self, at: Ref, units: &[u16]) -> Result<(), AllocError>
+        requires { at.0 < length self.old.names }
+        ensures ok { OnOk result (self.new ≡ changed self.old at.0 (Text units.now)) }
+        ensures err { OnErr result (self.new ≡ self.old) }
+    {
+        let text = Units::from_slice(*self.names.allocator(), units)?;
+        self.contents[at.0 as usize] = Content::Text(text);
+        Ok(())
+    }
+
+    /// Forgets the objects from that place on. What refers to none of them stands as before.
+    pub fn truncate(&mut self, count: usize)
+        ensures names { self.new.names ≡ take count self.old.names }
+        ensures contents { self.new.contents ≡ take count self.old.contents }
+    {
+        let mut size = self.count();
+        while size > count {
+            self.forget_last();
+            size -= 1;
         }
     }
 

@@ -1,10 +1,11 @@
 //! The locals of a frame.
 
-ghost use Rattle.std.specs.Prelude.{◌≡◌, ◌<◌, length, replicate, slice_get, slice_set, IfOk};
+ghost use Rattle.std.specs.Prelude.{◌≡◌, ◌<◌, length, map, replicate, slice_get, slice_set, IfOk};
 ghost use Rattle.std.specs.Option.{option_copied};
 ghost use Rattle.machine_values.specs.declared.values.Local.TheVariants.{Unset};
+ghost use Rattle.machine_values.specs.Stacks.{filled_local};
 
-use crate::values::Local;
+use crate::values::{Local, Ref};
 use smallvec::SmallVec;
 use std::alloc::{AllocError, Global};
 use std::marker::Model;
@@ -24,6 +25,27 @@ impl Model for Locals {
     ghost view = { λ l. l.items.items };
 
     ghost invariant = { λ l. length l.items.items < 2 ^ 16 };
+}
+
+impl Local {
+    fn filled_in(self, number: u64, object: Ref) -> Local
+        ensures { result ≡ filled_local number object self }
+    {
+        match self {
+            Local::Holds(value) => Local::Holds(value.filled_in(number, object)),
+            _ => self,
+        }
+    }
+}
+
+// Each token of the number becomes the object.
+#[tactic(auto, using(std::proofs::lemmas::List::take_all, std::proofs::lemmas::List::drop_all))]
+fn fill_in(locals: &mut [Local], number: u64, object: Ref)
+    ensures { locals.new ≡ map (filled_local number object) locals.old }
+{
+    for local in locals.iter_mut() {
+        *local = local.filled_in(number, object);
+    }
 }
 
 impl Locals {
@@ -56,5 +78,12 @@ impl Locals {
         ensures { self.new ≡ slice_set self.old index local }
     {
         self.items.as_mut_slice()[index as usize] = local;
+    }
+
+    /// Every copy of the token of this number becomes the object. It takes no memory.
+    pub fn fill_in(&mut self, number: u64, object: Ref)
+        ensures { self.new ≡ map (filled_local number object) self.old }
+    {
+        fill_in(self.items.as_mut_slice(), number, object);
     }
 }

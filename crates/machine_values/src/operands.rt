@@ -1,10 +1,10 @@
 //! The operands of a frame.
 
-ghost use Rattle.std.specs.Prelude.{◌≡◌, ◌+◌, [], ◌∷◌, reverse, nat_le, MatchOption, IfOk};
+ghost use Rattle.std.specs.Prelude.{◌≡◌, ◌+◌, ◌≤◌, [], ◌∷◌, map, reverse, nat_le, MatchOption, IfOk, IfSome};
 ghost use Rattle.std.specs.Bool.{MatchBool};
-ghost use Rattle.machine_values.specs.Stacks.{is_wide, width, weight, Pushes, Overflows};
+ghost use Rattle.machine_values.specs.Stacks.{is_wide, width, weight, Pushes, Overflows, filled_in};
 
-use crate::values::Value;
+use crate::values::{Ref, Value};
 use smallvec::SmallVec;
 use std::alloc::{AllocError, Global};
 use std::marker::Model;
@@ -43,6 +43,32 @@ impl Value {
     {
         if self.is_wide() { 2 } else { 1 }
     }
+
+    /// The object, where this is a token of the number, and else itself.
+    pub(crate) fn filled_in(self, number: u64, object: Ref) -> Value
+        ensures { result ≡ filled_in number object self }
+    {
+        match self {
+            Value::Token(class, other) => {
+                if other == number {
+                    Value::Reference(object)
+                } else {
+                    Value::Token(class, other)
+                }
+            }
+            _ => self,
+        }
+    }
+}
+
+// Each token of the number becomes the object.
+#[tactic(auto, using(std::proofs::lemmas::List::take_all, std::proofs::lemmas::List::drop_all))]
+fn fill_in(values: &mut [Value], number: u64, object: Ref)
+    ensures { values.new ≡ map (filled_in number object) values.old }
+{
+    for value in values.iter_mut() {
+        *value = value.filled_in(number, object);
+    }
 }
 
 impl Operands {
@@ -80,6 +106,7 @@ impl Operands {
     pub fn pop(&mut self) -> Option<Value>
         ensures room { self.new.room ≡ self.old.room }
         ensures popped { MatchOption result ((self.old.values ≡ []) × (self.new.values ≡ [])) (λ v. self.old.values ≡ v ∷ self.new.values) }
+        ensures fits { weight self.old.values ≤ self.old.room }
     {
         let value = self.items.pop()?;
         self.slots -= value.width();
@@ -98,5 +125,13 @@ impl Operands {
         ensures { result ≡ nat_le (slots + weight self.now.values) self.now.room }
     {
         slots <= self.room - self.slots
+    }
+
+    /// Every copy of the token of this number becomes the object. It takes no memory.
+    pub fn fill_in(&mut self, number: u64, object: Ref)
+        ensures room { self.new.room ≡ self.old.room }
+        ensures filled { self.new.values ≡ map (filled_in number object) self.old.values }
+    {
+        fill_in(self.items.as_mut_slice(), number, object);
     }
 }

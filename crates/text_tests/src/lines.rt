@@ -44,8 +44,11 @@ const INSTRUCTIONS: [(&[u8], &[u8]); 26] = [
         b"ldc \"a \\\"b\\\" \\u0041\\n\"  ",
         b"  ldc \"a \\\"b\\\" A\\n\"",
     ),
-    (b"ldc \"\\t\\\\\\'\"", b"  ldc \"\t\\\\'\""),
-    (b"ldc \"\\u0000\\u00e9\"", b"  ldc \"\xc0\x80\xc3\xa9\""),
+    (b"ldc \"\\t\\\\\\'\"", b"  ldc \"\\u0009\\\\'\""),
+    (
+        b"ldc \"\\u0000\\u00E9\xc3\xa9\xed\xa0\xbd\"",
+        b"  ldc \"\\u0000\\u00e9\\u00e9\\ud83d\"",
+    ),
     (b"ldc java/lang/String", b"  ldc java/lang/String"),
     (
         b"ldc2_w 9223372036854775807",

@@ -1,6 +1,7 @@
 use Rattle.machine_frames.proofs.Known.{still_known}
 use Rattle.machine_frames.proofs.Steps.{frame_stays}
 use Rattle.machine_frames.proofs.Arguments.{calls_on, call_breaks, receiver_before}
+use Rattle.machine_frames.proofs.Undone.{frame_taken, takes_more}
 use Rattle.machine_frames.proofs.calls.call_on.Goals as goal
 
 pub returns-in_default-clause-within : goal.returns-in_default-clause-within
@@ -23,3 +24,9 @@ returns-in-None-clause-taken c = let taken = rw c.in-Some.is at c.in_ok-argument
 
 pub returns-in-None-clause-within : goal.returns-in-None-clause-within
 returns-in-None-clause-within c = λ count h. frame_stays count c.args.frame.now _ (search still_known) h
+
+pub returns-in-Some-pop_receiver-clause-popped : goal.returns-in-Some-pop_receiver-clause-popped
+returns-in-Some-pop_receiver-clause-popped c =
+    let popped = rw c.in-Some.is at c.in_ok-arguments.ensures.popped in
+    frame_taken c.args.frame.now c.pop_receiver.new.operands _
+    (takes_more c.args.frame.now.operands c.pop_arguments.new.operands c.pop_receiver.new.operands _ _ popped c.in-Some-pop_receiver.ensures.popped)

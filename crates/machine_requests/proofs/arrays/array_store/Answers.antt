@@ -16,7 +16,9 @@ use Rattle.machine_values.specs.Things.{Things, changed, values_at}
 use Rattle.machine_requests.specs.declared.reply.Reply.TheVariants.{Done, Faults, Refuses}
 use Rattle.machine_requests.specs.Arrays.{index_in, kept_value, Holds}
 use Rattle.machine_requests.specs.Replies.{IsAnswerWhere, object}
-use Rattle.machine_requests.proofs.Stores.{store_refused, store_unserved, store_outside, stored_wrong, stored_done}
+use Rattle.machine_requests.specs.Objects.{AreFilled}
+use Rattle.machine_requests.proofs.Fills.{stored_filled}
+use Rattle.machine_requests.proofs.Stores.{index_below, store_refused, store_unserved, store_outside, stored_wrong, stored_done}
 use Rattle.machine_requests.proofs.arrays.array_store.Goals as goal
 
 pub returns-in_default-array_type-clause-answer : goal.returns-in_default-array_type-clause-answer
@@ -63,3 +65,12 @@ returns-clause-answer c others =
     (subst (λ (after : Things). IsAnswerWhere (Holds things (Some at) v true) things others (λ s names. ArrayStore c.args.element (object s names (Some at)) c.args.index (held s.heads names v)) after others Done)
     (ap (λ (x : Value). changed things at.0 (Values (slice_set (values_at things at.0) c.in-Some-index_in.place x))) (ap (λ (e : Element). kept_value e v) (sym c.array_element-held.ensures) ∙ sym c.kept_value.ensures) ∙ sym c.store.ensures)
     (stored_done things others c.args.element at c.args.index v class c.in-Some-index_in.place (sym (ap (is_known_object (length things.names)) c.in-Some.is) ∙ c.requires.known) (sym c.array_type.ensures ∙ ap option_copied c.in-Some-array_type.is) (ap (serves c.args.element) (sym c.array_element-held.ensures) ∙ sym c.serves.ensures ∙ c.if-not-serves.false) (ap (index_in c.args.index) (sym c.len.ensures) ∙ ap (λ (i : ℤ). index_in i c.len.result) (sym (to_z-of_z w32 c.args.index c.ranges.index)) ∙ sym c.index_in.ensures ∙ c.in-Some-index_in.is) c.requires.settled)))
+
+pub returns-clause-filled : goal.returns-clause-filled
+returns-clause-filled c s filled =
+    let things = c.args.heap.now in
+    let at = c.in-Some.at in
+    subst (λ (after : Things). AreFilled after s) (sym c.store.ensures)
+    (stored_filled things at.0 c.in-Some-index_in.place c.kept_value.result
+    (index_below c.args.index (length (values_at things at.0)) c.in-Some-index_in.place
+    (ap (index_in c.args.index) (sym c.len.ensures) ∙ ap (λ (i : ℤ). index_in i c.len.result) (sym (to_z-of_z w32 c.args.index c.ranges.index)) ∙ sym c.index_in.ensures ∙ c.in-Some-index_in.is)) s filled)

@@ -5,6 +5,8 @@ use Rattle.machine_values.specs.Things.{Things}
 use Rattle.machine_values.specs.Types.{type_name}
 use Rattle.machine_requests.specs.declared.reply.Reply.TheVariants.{Gives}
 use Rattle.machine_requests.specs.Replies.{IsAnswer}
+use Rattle.machine_requests.specs.Objects.{StaysFilled}
+use Rattle.machine_requests.proofs.Fills.{class_filled}
 use Rattle.machine_requests.proofs.NewArrays.{class_given}
 use Rattle.machine_requests.proofs.new_objects.class_object.Goals as goal
 
@@ -14,3 +16,6 @@ returns-clause-ok c others =
     let type = c.args.class.now in
     subst (λ (p : ℕ × Things). IsAnswer things others (λ s names. LoadClass (type_name type)) p.1 others (Gives (Pointer (record { 0 = p.0 })))) (sym c.in_ok-at.ensures.ok)
     (class_given things others type c.requires)
+
+pub returns-clause-filled : goal.returns-clause-filled
+returns-clause-filled c s = subst (λ (p : ℕ × Things). StaysFilled c.args.heap.now p.1 s) (sym c.in_ok-at.ensures.ok) (class_filled c.args.heap.now c.args.class.now s)

@@ -8,6 +8,11 @@ use Rattle.machine_values.specs.Things.{Things}
 use Rattle.machine_values.specs.Types.{type_name}
 use Rattle.machine_requests.specs.declared.reply.Reply.TheVariants.{Gives}
 use Rattle.machine_requests.specs.Replies.{IsAnswer}
+use Rattle.std.specs.Prelude.{nat_lt}
+use Rattle.std.proofs.lemmas.Bool.{and_parts}
+use Rattle.machine_requests.specs.Telling.{is_plain_base}
+use Rattle.machine_requests.specs.Objects.{StaysFilled}
+use Rattle.machine_requests.proofs.Fills.{array_filled}
 use Rattle.machine_requests.proofs.NewArrays.{array_made}
 use Rattle.machine_requests.proofs.new_objects.make_array.Goals as goal
 
@@ -20,3 +25,8 @@ returns-clause-ok c others named =
     (c.size_of-count.ensures ∙ to_z-of_z w32 c.args.size c.ranges.size)
     (subst (λ (p : ℕ × Things). IsAnswer things others (λ s names. MakeArray named (type_name type) (pos count ∷ [])) p.1 others (Gives (Pointer (record { 0 = p.0 })))) (sym c.in_ok-at.ensures.ok)
     (array_made things others named type count c.requires))
+
+pub returns-clause-filled : goal.returns-clause-filled
+returns-clause-filled c s =
+    subst (λ (p : ℕ × Things). StaysFilled c.args.heap.now p.1 s) (sym c.in_ok-at.ensures.ok)
+    (array_filled c.args.heap.now c.args.class.now _ s (and_parts (is_plain_base c.args.class.now.base) (nat_lt 0 c.args.class.now.dims) c.requires).1)

@@ -1,0 +1,6 @@
+pub mod Settings
+pub mod Positions
+pub mod Types
+pub mod FieldLaws
+pub mod ProgramLaws
+pub mod NewObjects

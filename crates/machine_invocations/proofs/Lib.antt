@@ -1,0 +1,14 @@
+pub mod Seen
+pub mod Searched
+pub mod Upward
+pub mod ArrayTypes
+pub mod Names
+pub mod Initialised
+pub mod Marking
+pub mod Begun
+pub mod Filled
+pub mod Fieldless
+pub mod Locked
+pub mod Entered
+pub mod Shown
+pub mod Left

@@ -1,0 +1,10 @@
+mod Buffers
+mod Decimals
+mod Declared
+mod Finished
+mod Giving
+mod Hashes
+mod Library
+mod Selection
+mod Standing
+mod StringWork

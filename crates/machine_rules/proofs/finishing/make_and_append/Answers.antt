@@ -1,0 +1,11 @@
+use Rattle.machine_rules.proofs.Finished.{made_appended, restored}
+use Rattle.machine_rules.proofs.finishing.make_and_append.Goals as goal
+
+pub returns-in-Ok-clause-work : goal.returns-in-Ok-clause-work
+returns-in-Ok-clause-work c =
+    made_appended c.args.world.now c.args.heap.now c.args.buffer c.args.units.now c.make_string.new.heap c.append.new.heap c.in_ok-make_string.field-0 c.in_ok-make_string.ensures.made c.make_string.ensures.names
+    c.in-Ok.ensures.ok c.append.ensures.names c.requires.buffer
+
+pub returns-in-Err-clause-err : goal.returns-in-Err-clause-err
+returns-in-Err-clause-err c =
+    restored c.args.heap.now c.make_string.new.heap c.append.new.heap c.truncate.new.self c.count-count.result c.in_ok-make_string.ensures.grown c.in-Err.ensures.err c.count-count.ensures.count c.count-count.ensures.contents c.truncate.ensures.names c.truncate.ensures.contents

@@ -1,0 +1,5 @@
+pub mod Finishing
+pub mod Library
+pub mod Selecting
+pub mod Texts
+pub mod Works

@@ -1,0 +1,19 @@
+//! What each method of the library does to the heap (The Java Virtual Machine Specification, second
+//! edition, 2.8, 3.5.3; the rules are those of `boot_library`), as the class machine's definition has
+//! it.
+//!
+//! Each contract says that the work, with the heap after it, stands for the definition's
+//! (`specs/Works.antt`).
+#![tactic(auto)]
+
+mod arguments;
+mod classes;
+mod finishing;
+mod numbers;
+mod objects;
+mod selecting;
+mod strings;
+mod texts;
+mod work;
+
+pub use work::Work;
