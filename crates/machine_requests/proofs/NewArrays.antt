@@ -25,7 +25,7 @@ use Rattle.machine_values.specs.declared.values.Value.TheVariants.{Null, Referen
 use Rattle.machine_values.specs.declared.names.Maker.{Maker}
 use Rattle.machine_values.specs.declared.names.Maker.TheVariants.{Array}
 use Rattle.machine_values.specs.declared.names.Name.{Name}
-use Rattle.machine_values.specs.declared.names.Name.TheVariants.{ClassObject}
+use Rattle.machine_values.specs.declared.names.Name.TheVariants.{ClassObject, Literal}
 use Rattle.machine_values.specs.declared.content.Content.{Content}
 use Rattle.machine_values.specs.declared.content.Content.TheVariants.{Values}
 use Rattle.machine_values.specs.First.{first_element, first_of_base}
@@ -40,6 +40,7 @@ use Rattle.machine_requests.specs.Telling.{is_array_type, is_class_type}
 use Rattle.machine_requests.specs.TellingLaws.{all_told}
 use Rattle.machine_requests.specs.Shares.{Others, Shares}
 use Rattle.machine_requests.specs.Growing.{make_shares, constant_shares}
+use Rattle.machine_requests.specs.Objects.{IsThere, Finds}
 use Rattle.machine_requests.specs.Replies.{Replies, IsAnswer, IsLonger}
 use Rattle.machine_requests.specs.Arrays.{base_element, array_element}
 use Rattle.machine_requests.proofs.ArrayLaws.{held_in_array}
@@ -180,6 +181,22 @@ class_given things others type fit s w distinct shares = by (place_of things.nam
     lt-ltb place (length things.names) (place_of-within things.names (ClassObject type) place e),
     after,
   )
+
+-- the String of a literal
+pub literal_found : (things : Things) (units : List ℕ) → Finds (machine.Literal units) things (with_constant things (Literal units)).1 (ref (with_constant things (Literal units)).0)
+literal_found things units s others w distinct shares = by (place_of things.names (Literal units)) refl (constant_shares s things others w (Literal units) distinct shares refl refl) where
+  by : (o : Option ℕ) → place_of things.names (Literal units) ≡ o → Shares s (placed_at things (Literal units) o).1 others w
+      → IsThere s (machine.Literal units) (placed_at things (Literal units) o).1 others w (ref (placed_at things (Literal units) o).0)
+  by None e after = record {
+    named = last_name s.heads things.names (Literal units);
+    within = lt-ltb (length things.names) (length (things.names ++ Literal units ∷ [])) (let more = length-push things.names (Literal units) in omega arith);
+    shares = after;
+  }
+  by (Some place) e after = record {
+    named = name_at_place s.heads things.names (Literal units) place e;
+    within = lt-ltb place (length things.names) (place_of-within things.names (Literal units) place e);
+    shares = after;
+  }
 
 pub longer_made : (things : Things) (maker : Maker) (c : Content) → IsLonger things (with_made things maker c).1
 longer_made things maker c = (kept_name things.names maker ∷ [], refl)

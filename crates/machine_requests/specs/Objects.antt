@@ -5,6 +5,7 @@ use Rattle.aj_names.specs.declared.types.FieldType.{FieldType}
 use Rattle.class_file.specs.Pool.{Reference}
 use Rattle.class_heads.specs.Hierarchy.{name_at, is_array}
 use Rattle.class_machine.specs.declared.kinds.Element.{Element}
+use Rattle.class_machine.specs.Values as machine
 use Rattle.class_machine.specs.Values.{class_of, class_class}
 use Rattle.class_machine.specs.Descriptors.{element_of}
 use Rattle.class_machine.specs.Classes.{same_member}
@@ -97,3 +98,14 @@ pub record BareTypes (s : Setting) : Type 0 where
 -- where each object had them before, each has them then
 abbrev pub StaysFilled : Things → Things → Setting → Type 0
 StaysFilled before after s = BareTypes s → length before.contents ≡ length before.names → AreFilled before s → AreFilled after s
+
+-- ---- objects that are there without being made
+
+-- the object is of the machine's name, and the heap stands for the world as it was
+pub record IsThere (s : Setting) (name : machine.Name) (things : Things) (others : Others) (w : World) (at : Ref) : Type 0 where
+  pub named : name_of s.heads things.names at ≡ name
+  pub within : nat_lt at.0 (length things.names) ≡ true
+  pub shares : Shares s things others w
+
+abbrev pub Finds : machine.Name → Things → Things → Ref → Type 0
+Finds name before after at = (s : Setting) (others : Others) (w : World) → AreDistinct s.heads → Shares s before others w → IsThere s name after others w at

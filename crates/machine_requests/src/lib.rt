@@ -24,7 +24,7 @@ pub use laws::{
     values_stay,
 };
 pub use monitors::{enter_monitor, leave_monitor};
-pub use new_objects::{class_object, make, make_array};
+pub use new_objects::{class_object, literal, make, make_array};
 pub use reply::Reply;
 pub use statics::{get_static, put_static};
 pub use types::{cast, is_instance};

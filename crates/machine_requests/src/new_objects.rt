@@ -2,9 +2,10 @@
 
 ghost use Rattle.std.specs.Prelude.{◌≡◌, ◌≤ℤ◌, pos, ◌++◌, [], ◌∷◌, List, ℕ, true, Option, IfOk, OnErr};
 ghost use Rattle.class_machine.specs.Effect.{LoadClass, MakeArray};
+ghost use Rattle.class_machine.specs.Values.{Literal};
 ghost use Rattle.machine_values.specs.Types.{type_name};
 ghost use Rattle.machine_requests.specs.Telling.{is_array_type, is_class_type};
-ghost use Rattle.machine_requests.specs.Objects.{IsClass, Makes, new_content, StaysFilled};
+ghost use Rattle.machine_requests.specs.Objects.{Finds, IsClass, Makes, new_content, StaysFilled};
 ghost use Rattle.machine_values.specs.declared.names.Maker.TheVariants.{Class};
 ghost use Rattle.machine_values.specs.Things.{with_made};
 ghost use Rattle.machine_requests.specs.Shares.{Others, Setting};
@@ -74,4 +75,16 @@ pub fn make(
     } else {
         heap.make(class, fields)
     }
+}
+
+/// The String of the literal of these units, the same one each time (JVMS 3.10.5). A call that fails
+/// leaves the heap as it was.
+pub fn literal(heap: &mut Heap, units: &[u16]) -> Result<Ref, AllocError>
+    ensures ok { IfOk result (λ at. Finds (Literal units.now) heap.old heap.new at) }
+    ensures names { IsLonger heap.old heap.new }
+    ensures filled { IfOk result (λ at. (s : Setting) → StaysFilled heap.old heap.new s) }
+    ensures err { OnErr result (heap.new ≡ heap.old) }
+{
+    let at = heap.literal(units)?;
+    Ok(at)
 }
