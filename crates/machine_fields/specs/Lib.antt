@@ -4,3 +4,4 @@ pub mod Types
 pub mod FieldLaws
 pub mod ProgramLaws
 pub mod NewObjects
+pub mod Constants

@@ -6,12 +6,15 @@
 //! ask for, at the setting of the world (`specs/Settings.antt`).
 #![tactic(auto)]
 
+mod constants;
+mod initial;
 mod laws;
 mod new_objects;
 mod objects;
 mod positions;
 mod types;
 
+pub use initial::initial_value;
 pub use laws::{
     fields_apart, first_field_named, first_field_numbered, found_is_field, found_is_first,
     program_is_distinct,
