@@ -1,7 +1,7 @@
 -- The fields of new objects.
-use Rattle.std.specs.Prelude.{◌≡◌, ℕ, zero, suc, ◌-◌, ◌<◌, Bool, true, false, not, if◌then◌else◌, nat_lt, List, [], ◌∷◌, ◌++◌, map, length, slice_get, Option, Some, None, Result, Ok, Err, IfOk, OnOk, refl}
-use Rattle.std.specs.List.{filter, filter_map, flat_map}
-use Rattle.std.specs.Option.{option_map, option_to_list}
+use Rattle.std.specs.Prelude.{◌≡◌, ℕ, zero, suc, ◌<◌, Bool, true, false, not, if◌then◌else◌, nat_lt, List, [], ◌∷◌, ◌++◌, map, length, slice_get, Option, Some, Result, Ok, Err, IfOk, OnOk, refl}
+use Rattle.std.specs.List.{filter, flat_map}
+use Rattle.std.specs.Option.{option_to_list}
 use Rattle.std.proofs.Common.{sym, ◌∙◌, ap, subst, arith, inl, inr, length-append}
 use Rattle.std.proofs.lemmas.Bool.{cases_lt, lt-ltb}
 use Rattle.std.proofs.lemmas.List.{append_assoc, map-append, length-map}
@@ -15,9 +15,9 @@ use Rattle.class_world.specs.Tables.{Known}
 use Rattle.class_machine.specs.declared.kinds.Element.{Element}
 use Rattle.class_machine.specs.Descriptors.{element_of}
 use Rattle.class_machine.specs.Classes.{Classes}
-use Rattle.class_machine.specs.Declarations.{declared_in, is_static_field, own_fields, hidden_fields, classes_of}
+use Rattle.class_machine.specs.Declarations.{declared_in, is_static_field, own_fields, hidden_fields}
 use Rattle.class_machine.specs.ClassFiles.{field_constant}
-use Rattle.class_machine.specs.World.{World, is_text_class}
+use Rattle.class_machine.specs.World.{is_text_class}
 use Rattle.machine_values.specs.declared.values.Ref.{Ref}
 use Rattle.machine_values.specs.declared.names.Maker.TheVariants.{Class}
 use Rattle.machine_values.specs.declared.names.Name.{Name}
@@ -28,11 +28,11 @@ use Rattle.machine_values.specs.Standing.{name_in}
 use Rattle.machine_values.specs.Things.{Things, next_name, with_thing, with_made}
 use Rattle.class_machine.specs.Values.{class_of}
 use Rattle.machine_requests.specs.Arrays.{type_element}
-use Rattle.machine_requests.specs.Objects.{IsClass, IsNew, Makes, AreFilled, fields_in, fields_at, new_content}
-use Rattle.machine_requests.specs.Shares.{Setting, Others, Shares}
+use Rattle.machine_requests.specs.Objects.{IsNew, Makes, AreFilled, fields_in, fields_at, new_content}
+use Rattle.machine_requests.specs.Shares.{Others}
 use Rattle.machine_requests.specs.Telling.{AreDistinct}
 use Rattle.machine_fields.specs.Positions.{in_head, in_place}
-use Rattle.machine_fields.specs.NewObjects.{held_by, asked_by, own_elements, IsSettingOf, MakesOf, KeepsFilled}
+use Rattle.machine_fields.specs.NewObjects.{held_by, asked_by, own_elements, MakesOf, KeepsFilled}
 use Rattle.machine_fields.proofs.Walks.{rest_of, stands, fields_upward}
 
 pub own_asked : (class : List ℕ) (fields : List FieldHead) → own_elements fields ≡ asked_by (map (λ (field : FieldHead). declared_in class field.name) (filter (λ field. not (is_static_field field)) fields))

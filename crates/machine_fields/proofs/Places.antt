@@ -1,9 +1,9 @@
 -- The first place of a field in a list of fields.
-use Rattle.std.specs.Prelude.{◌≡◌, ℕ, zero, suc, ◌+◌, ◌<◌, ◌≤◌, Bool, true, false, not, ◌&&◌, cond, List, [], ◌∷◌, ◌++◌, map, length, Option, Some, None, if◌then◌else◌, refl}
+use Rattle.std.specs.Prelude.{◌≡◌, ℕ, suc, ◌+◌, Bool, true, false, not, ◌&&◌, cond, List, [], ◌∷◌, ◌++◌, map, length, Option, Some, None, if◌then◌else◌, refl}
 use Rattle.std.specs.List.{AllByRecursion, filter, find, position_from}
 use Rattle.std.specs.Option.{option_map, option_or, option_to_list}
 use Rattle.std.specs.Str.{bytes_eq}
-use Rattle.std.proofs.Common.{sym, ◌∙◌, ap, subst, inl, inr, arith, codes}
+use Rattle.std.proofs.Common.{sym, ◌∙◌, ap, subst, inl, inr, arith}
 use Rattle.std.proofs.lemmas.Bool.{cases_Bool, false≢true}
 use Rattle.std.proofs.lemmas.List.{length-map}
 use Rattle.std.proofs.lemmas.Option.{none-some}

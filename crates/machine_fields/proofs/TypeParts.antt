@@ -1,16 +1,14 @@
 -- Types by their names and by their parts.
-use Rattle.std.specs.Prelude.{◌≡◌, ℕ, zero, suc, ◌+◌, ◌-◌, ◌<◌, ◌≤◌, Bool, true, false, not, ◌||◌, ◌&&◌, ◌==◌, if◌then◌else◌, nat_lt, List, [], ◌∷◌, ◌++◌, drop, length, replicate, slice_get, Option, Some, None, refl, codes}
-use Rattle.std.specs.List.{list_all}
+use Rattle.std.specs.Prelude.{◌≡◌, ℕ, zero, suc, ◌+◌, ◌-◌, ◌<◌, Bool, true, false, not, ◌||◌, ◌==◌, if◌then◌else◌, nat_lt, List, [], ◌∷◌, ◌++◌, drop, length, replicate, slice_get, Option, Some, None, refl}
 use Rattle.std.specs.Option.{option_map, unwrap_or}
-use Rattle.std.specs.Str.{bytes_eq}
-use Rattle.std.proofs.Common.{sym, ◌∙◌, ap, subst, arith, inl, inr}
-use Rattle.std.proofs.lemmas.Bool.{cases_Bool, false≢true, and_parts, ltb-true}
+use Rattle.std.proofs.Common.{sym, ◌∙◌, ap, subst, arith}
+use Rattle.std.proofs.lemmas.Bool.{false≢true, and_parts, ltb-true}
 use Rattle.std.proofs.lemmas.Option.{none-some, same_Some}
 use Rattle.aj_names.specs.declared.ids.ClassId.{ClassId}
 use Rattle.aj_names.specs.declared.types.Base.{Base}
 use Rattle.aj_names.specs.declared.types.Base.TheVariants as base
 use Rattle.aj_names.specs.declared.types.FieldType.{FieldType}
-use Rattle.aj_names.specs.Descriptors.{base_spelling, field_spelling}
+use Rattle.aj_names.specs.Descriptors.{base_spelling}
 use Rattle.class_file.specs.Pool.{Reference}
 use Rattle.class_heads.specs.declared.types.ClassHead.{ClassHead}
 use Rattle.class_heads.specs.Hierarchy.{TypeName, name_at, place_of, is_array, type_named, type_of_descriptor, before_semicolon, is_class_below, is_type_below, is_subtype}

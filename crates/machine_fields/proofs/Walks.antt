@@ -18,7 +18,7 @@ use Rattle.class_machine.specs.Declarations as run
 use Rattle.class_machine.specs.Classes.{reference}
 use Rattle.class_machine.specs.Declarations.{declared_in, own_fields, fields_of, hidden_fields}
 use Rattle.machine_requests.specs.Objects.{field_place}
-use Rattle.machine_requests.specs.Telling.{is_plain, AreDistinct}
+use Rattle.machine_requests.specs.Telling.{AreDistinct}
 use Rattle.machine_requests.specs.TellingLaws.{plain_no_array}
 use Rattle.machine_fields.specs.Positions.{in_head, in_some, in_place, IsPlace}
 use Rattle.machine_fields.proofs.Places.{place_first, place_second}

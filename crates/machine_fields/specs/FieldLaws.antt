@@ -1,6 +1,6 @@
 -- Fields by their numbers: each that a search finds has a name of its own.
-use Rattle.std.specs.Prelude.{◌≡◌, ℕ, zero, suc, ◌+◌, ◌-◌, ◌<◌, ◌≤◌, ◌==◌, ◌&&◌, Bool, true, false, if◌then◌else◌, List, [], ◌∷◌, ◌++◌, map, take, length, replicate, nat_lt, slice_get, Option, Some, None, option_and_then, refl}
-use Rattle.std.specs.List.{flat_map, position_from, sum}
+use Rattle.std.specs.Prelude.{◌≡◌, ℕ, zero, suc, ◌+◌, ◌-◌, ◌<◌, ◌==◌, ◌&&◌, Bool, true, false, if◌then◌else◌, List, [], ◌∷◌, ◌++◌, take, length, replicate, slice_get, Option, Some, None, option_and_then, refl}
+use Rattle.std.specs.List.{position_from, sum}
 use Rattle.std.specs.Option.{option_map, option_or, unwrap_or}
 use Rattle.std.specs.Str.{bytes_eq}
 use Rattle.std.proofs.Common.{get_or, sym, ◌∙◌, ap, subst, arith, inl, inr, cond, eq-eqb}
@@ -16,16 +16,13 @@ use Rattle.class_heads.specs.declared.types.ClassHead.{ClassHead}
 use Rattle.class_heads.specs.Hierarchy.{name_at, place_of, order}
 use Rattle.class_heads.specs.Searches.{MemberPlace, in_class, same_name, field_position, field_in, first_found, find_field}
 use Rattle.class_heads.specs.Numbers.{first_number, number_of, field_counts, IsNumbered}
-use Rattle.class_machine.specs.declared.kinds.Element.{Element}
-use Rattle.class_machine.specs.Values.{Held}
 use Rattle.class_machine.specs.Classes.{reference, same_type, same_member}
 use Rattle.class_machine.specs.Declarations as run
 use Rattle.class_machine.specs.Declarations.{declared_in, member_name}
 use Rattle.class_machine.specs.ClassFiles.{field_constant}
 use Rattle.class_machine.specs.Descriptors.{element_of}
-use Rattle.class_machine.specs.Answers.{declared, declared_name}
+use Rattle.class_machine.specs.Answers.{declared_name}
 use Rattle.class_world.specs.Tables.{Known}
-use Rattle.machine_requests.specs.Shares.{Setting}
 use Rattle.machine_requests.specs.Statics.{IsField, AreApart}
 use Rattle.machine_requests.specs.Telling.{is_plain, AreDistinct}
 use Rattle.machine_fields.specs.Settings.{is_at, first_name, names_from, field_names, no_field, name_or_none, field_name, world_setting}

@@ -1,17 +1,13 @@
 -- Where the fields of an object stand: those of its class, then those of its superclass, and so on upward; what the library
 -- keeps of its own stands behind the fields of the class that it belongs to.
-use Rattle.std.specs.Prelude.{◌≡◌, ℕ, ◌≤◌, ◌^◌, List, [], ◌++◌, slice_get, Option, Some, None, option_and_then}
+use Rattle.std.specs.Prelude.{◌≡◌, ℕ, ◌≤◌, ◌^◌, List, [], ◌++◌, slice_get, Option, Some, None}
 use Rattle.std.specs.List.{find}
-use Rattle.std.specs.Option.{option_map, unwrap_or}
 use Rattle.std.specs.Str.{bytes_eq}
 use Rattle.boot_library.specs.declared.rule.Primitive.{Primitive}
 use Rattle.class_file.specs.Pool.{Reference}
-use Rattle.class_heads.specs.declared.types.FieldHead.{FieldHead}
 use Rattle.class_heads.specs.declared.types.ClassHead.{ClassHead}
 use Rattle.class_heads.specs.Hierarchy.{name_at}
-use Rattle.class_heads.specs.Searches.{MemberPlace}
-use Rattle.class_machine.specs.Classes.{reference}
-use Rattle.class_machine.specs.Declarations.{declared_in, own_fields, box_types, hidden_fields}
+use Rattle.class_machine.specs.Declarations.{own_fields, box_types, hidden_fields}
 use Rattle.class_machine.specs.World.{box_class}
 use Rattle.class_world.specs.Tables.{Known}
 use Rattle.machine_requests.specs.Objects.{field_place}

@@ -1,10 +1,9 @@
-use Rattle.std.proofs.Common.{ℕ, List, length, codes, sym, ◌∙◌, ap, subst}
+use Rattle.std.proofs.Common.{ℕ, List, length, codes, subst}
 use Rattle.std.specs.List.{flat_map}
-use Rattle.class_file.specs.Pool.{Reference}
 use Rattle.class_heads.specs.Hierarchy.{superclasses}
 use Rattle.class_machine.specs.Classes.{reference}
 use Rattle.class_machine.specs.ClassFiles.{field_constant}
-use Rattle.class_machine.specs.World.{box_class, value_field}
+use Rattle.class_machine.specs.World.{value_field}
 use Rattle.machine_fields.specs.Positions.{in_place, IsPlace}
 use Rattle.machine_fields.proofs.Walks.{at_class}
 use Rattle.machine_fields.proofs.positions.value_position.Goals as goal

@@ -1,4 +1,4 @@
-use Rattle.std.proofs.Common.{ℕ, ◌+◌, List, length, sym, ◌∙◌, ap, subst, drop, arith, length-drop, ◌≡◌}
+use Rattle.std.proofs.Common.{ℕ, ◌+◌, List, length, sym, ◌∙◌, ap, drop, arith, length-drop, ◌≡◌}
 use Rattle.class_heads.specs.Hierarchy.{type_of_descriptor}
 use Rattle.machine_fields.specs.Types.{arrays}
 use Rattle.machine_fields.proofs.TypeParts.{array_step, array_has}
