@@ -6,7 +6,7 @@ use Rattle.std.specs.Option.{option_map}
 use Rattle.class_file.specs.Pool.{Reference}
 use Rattle.class_heads.specs.Hierarchy.{is_array}
 use Rattle.class_machine.specs.declared.kinds.Fault.{Fault}
-use Rattle.class_machine.specs.Values.{Name, ClassObject, class_of, throwable_class, Held, Reference as Pointer, arguments_width, Plain, ReturnAddress, Local, Unset, Content, content, pushed_on, has_room, kind_width, argument_locals, filled_in, filled_local}
+use Rattle.class_machine.specs.Values.{Name, ClassObject, class_of, throwable_class, Held, Reference as Pointer, held_width, arguments_width, Plain, ReturnAddress, Local, Unset, Content, content, pushed_on, has_room, kind_width, argument_locals, filled_in, filled_local}
 use Rattle.class_machine.specs.Descriptors.{kind_in, result_in}
 use Rattle.class_machine.specs.Events.{Event, Ending, Exit, Unresolved, Unmodelled, ScriptEnds}
 use Rattle.class_machine.specs.Events as events
@@ -263,13 +263,14 @@ module _ {P : Type 0} (code : Code P) (cs : Classes) where
   is_this_or_super Constructs = true
   is_this_or_super _ = false
 
-  abbrev pub with_result : Option Held → Content P → Content P
-  with_result None c = c
-  with_result (Some v) c = pushed_on (Plain v) c
+  -- on with the result on top, where there is room for it
+  abbrev pub given_back : Frame P → Option Held → Content P → (Content P → Turn P) → Turn P
+  given_back f None c go = go c
+  given_back f (Some v) c go = if has_room f.room (held_width v) c.operands then go (pushed_on (Plain v) c) else stops events.Broken
 
   -- a native call: its event, and what the script answers
   abbrev pub responded : Frame P → Content P → Bool → Event → Response → Turn P
-  responded f c super event (Returns v w) = completes (Some event) super (code.next f.place) (with_result v c) w
+  responded f c super event (Returns v w) = given_back f v c (λ all. completes (Some event) super (code.next f.place) all w)
   responded f c super event (native.Throws x w) = Raises (Some event) x c w
   responded f c super event Lacks = Finishes (Some event) ScriptEnds
 
@@ -280,12 +281,12 @@ module _ {P : Type 0} (code : Code P) (cs : Classes) where
 
   -- Class.forName triggers initialisation, and is then executed again; an array type initialises nothing
   abbrev pub loads : Frame P → Content P → World → List ℕ → List (Frame P) → Turn P
-  loads f c w class [] = completes None false (code.next f.place) (pushed_on (Plain (Pointer (ClassObject class))) c) (begin cs w class)
+  loads f c w class [] = given_back f (Some (Pointer (ClassObject class))) c (λ all. completes None false (code.next f.place) all (begin cs w class))
   loads f c w class (g ∷ frames) = Begins (g ∷ frames) (begin cs w class)
 
   -- what a library call makes of its frame
   abbrev pub worked : Frame P → Content P → World → Bool → Work → Turn P
-  worked f c w super (Results said v w') = completes said super (code.next f.place) (with_result v c) w'
+  worked f c w super (Results said v w') = given_back f v c (λ all. completes said super (code.next f.place) all w')
   worked f c w super (Throws x w') = Raises None x c w'
   worked f c w super (work.Faults fault) = fails fault c w
   worked f c w super (Calls m a wait w') = enter_within c w' m a wait

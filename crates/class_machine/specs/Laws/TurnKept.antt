@@ -7,7 +7,7 @@ use Rattle.std.proofs.lemmas.List.{map-append}
 use Rattle.class_file.specs.Pool.{Reference}
 use Rattle.class_heads.specs.Hierarchy.{is_array}
 use Rattle.class_machine.specs.declared.kinds.Fault.{Fault}
-use Rattle.class_machine.specs.Values.{Name, ClassObject, class_of, throwable_class, Held, Reference as Pointer, Plain, ReturnAddress, Unset, Holds, Second, Content, pushed_on, is_wide_held, argument_locals, arguments_width}
+use Rattle.class_machine.specs.Values.{Name, ClassObject, class_of, throwable_class, Held, Reference as Pointer, Plain, ReturnAddress, Unset, Holds, Second, Content, pushed_on, held_width, has_room, is_wide_held, argument_locals, arguments_width}
 use Rattle.class_machine.specs.Descriptors.{kind_in, result_in}
 use Rattle.class_machine.specs.Events.{Event, Ending, Returned, Uncaught, InitFailed, Exit, Unmodelled, Unresolved, ScriptEnds}
 use Rattle.class_machine.specs.Events as events
@@ -101,10 +101,20 @@ module _ {P Q : Type 0} (f at : P → Q) (code : Code P) (code' : Code Q) (cs cs
         TK g (Turn.completes code cs said super (code.next x.place) c w) (Turn.completes code' cs' said super (code'.next y.place) (gc c) w')
     completed_kept said super c w w' a = rw stands.next (completes_kept g said super (code.next x.place) c w w' a)
 
-    with_result_kept : (said : Option Event) (super : Bool) (v : Option Held) (c : Content P) (w w' : World) → Alike w w' →
-        TK g (Turn.completes code cs said super (code.next x.place) (Turn.with_result code cs v c) w) (Turn.completes code' cs' said super (code'.next y.place) (Turn.with_result code' cs' v (gc c)) w')
-    with_result_kept said super None c w w' a = completed_kept said super c w w' a
-    with_result_kept said super (Some v) c w w' a = completed_kept said super (pushed_on (Plain v) c) w w' a
+    given_at : (said : Option Event) (super : Bool) (h : Held) (c : Content P) (w w' : World) → Alike w w' → (b : Bool) → has_room x.room (held_width h) c.operands ≡ b →
+        TK g (if b then Turn.completes code cs said super (code.next x.place) (pushed_on (Plain h) c) w else stops events.Broken)
+        (if has_room y.room (held_width h) (gc c).operands then Turn.completes code' cs' said super (code'.next y.place) (pushed_on (Plain h) (gc c)) w' else stops events.Broken)
+    given_at said super h c w w' a true e =
+        let heavy = weight-rs f g.locals c.operands in
+        let test : has_room y.room (held_width h) (gc c).operands ≡ true = grind (arith, nat_tests) in
+        rw test (completed_kept said super (pushed_on (Plain h) c) w w' a)
+    given_at said super h c w w' a false e = tt
+
+    given_back_kept : (said : Option Event) (super : Bool) (v : Option Held) (c : Content P) (w w' : World) → Alike w w' →
+        TK g (Turn.given_back code cs x v c (λ all. Turn.completes code cs said super (code.next x.place) all w))
+        (Turn.given_back code' cs' y v (gc c) (λ all. Turn.completes code' cs' said super (code'.next y.place) all w'))
+    given_back_kept said super None c w w' a = completed_kept said super c w w' a
+    given_back_kept said super (Some h) c w w' a = given_at said super h c w w' a (has_room x.room (held_width h) c.operands) refl
 
     target_kept : (i : ℕ) (c : Content P) (w w' : World) → Alike w w' → TK g (Turn.stays code cs (code.target x.place i) c w) (Turn.stays code' cs' (code'.target y.place i) (gc c) w')
     target_kept i c w w' a = rw (stands.target i) (stays_kept g (code.target x.place i) c w w' a)
@@ -134,7 +144,7 @@ module _ {P Q : Type 0} (f at : P → Q) (code : Code P) (code' : Code Q) (cs cs
     enters_kept purpose c w w' a r m receiver given (Some e) o' k = rw k.2 (enter_at_kept purpose c w w' a m receiver given e k.0 k.1 (nat_le (arguments_width given) e.locals) refl)
 
     responded_kept : (c : Content P) (super : Bool) (event : Event) (r r' : Response) → ResponseKept Alike r r' → TK g (Turn.responded code cs x c super event r) (Turn.responded code' cs' y (gc c) super event r')
-    responded_kept c super event (Returns v w) r' k = rw k.2 (with_result_kept (Some event) super v c w k.0 k.1)
+    responded_kept c super event (Returns v w) r' k = rw k.2 (given_back_kept (Some event) super v c w k.0 k.1)
     responded_kept c super event (native.Throws z w) r' k = rw k.2 (k.0, k.1, refl)
     responded_kept c super event Lacks r' k = rw k refl
 
@@ -146,7 +156,7 @@ module _ {P Q : Type 0} (f at : P → Q) (code : Code P) (code' : Code Q) (cs cs
 
     loads_kept : (c : Content P) (w w' : World) (class : List ℕ) → Alike (begin cs w class) (begin cs' w' class) → (fs : List (Frame P)) (gs : List (Frame Q)) → AllStart f fs gs →
         TK g (Turn.loads code cs x c w class fs) (Turn.loads code' cs' y (gc c) w' class gs)
-    loads_kept c w w' class a [] gs k = rw k (completed_kept None false (pushed_on (Plain (Pointer (ClassObject class))) c) (begin cs w class) (begin cs' w' class) a)
+    loads_kept c w w' class a [] gs k = rw k (given_back_kept None false (Some (Pointer (ClassObject class))) c (begin cs w class) (begin cs' w' class) a)
     loads_kept c w w' class a (h ∷ fs) gs k = rw k.3 (begin cs' w' class, a, _, (k.0, k.1, k.2, refl, k.4), refl)
 
     loads_either : (c : Content P) (w w' : World) (class : List ℕ) → BeginsAlike f code code' cs cs' Alike class w w' → (b : Bool) →
@@ -157,7 +167,7 @@ module _ {P Q : Type 0} (f at : P → Q) (code : Code P) (code' : Code Q) (cs cs
 
     pub worked_kept : (c : Content P) (w w' : World) → Alike w w' → (super : Bool) (r r' : Work) → WorkKept Alike r r' → ((class : List ℕ) → r ≡ Loads class → BeginsAlike f code code' cs cs' Alike class w w') →
         TK g (Turn.worked code cs x c w super r) (Turn.worked code' cs' y (gc c) w' super r')
-    worked_kept c w w' a super (Results said v u) r' k h = rw k.2 (with_result_kept said super v c u k.0 k.1)
+    worked_kept c w w' a super (Results said v u) r' k h = rw k.2 (given_back_kept said super v c u k.0 k.1)
     worked_kept c w w' a super (Throws z u) r' k h = rw k.2 (k.0, k.1, refl)
     worked_kept c w w' a super (work.Faults fault) r' k h = rw k (fails_kept g fault c w w' a)
     worked_kept c w w' a super (Calls m z wait u) r' k h = rw k.2 (within_kept c u k.0 k.1 m z wait m.is_native)
