@@ -279,18 +279,22 @@ module _ {P : Type 0} (code : Code P) (cs : Classes) where
   enter_within c w m a wait =
       if m.is_native then stops (Unresolved (member_text m.name)) else enters (Within wait) c w m.name m (Some a) (Pointer a ∷ []) (code.method m.name)
 
-  -- Class.forName triggers initialisation, and is then executed again; an array type initialises nothing
+  -- on with the object that stands for the class
+  abbrev pub gives_class : Frame P → Content P → World → List ℕ → Turn P
+  gives_class f c w class = given_back f (Some (Pointer (ClassObject class))) c (λ all. completes None false (code.next f.place) all w)
+
+  -- Class.forName triggers initialisation, and is then executed again
   abbrev pub loads : Frame P → Content P → World → List ℕ → List (Frame P) → Turn P
-  loads f c w class [] = given_back f (Some (Pointer (ClassObject class))) c (λ all. completes None false (code.next f.place) all (begin cs w class))
+  loads f c w class [] = gives_class f c (begin cs w class) class
   loads f c w class (g ∷ frames) = Begins (g ∷ frames) (begin cs w class)
 
-  -- what a library call makes of its frame
+  -- what a library call makes of its frame; an array type initialises nothing
   abbrev pub worked : Frame P → Content P → World → Bool → Work → Turn P
   worked f c w super (Results said v w') = given_back f v c (λ all. completes said super (code.next f.place) all w')
   worked f c w super (Throws x w') = Raises None x c w'
   worked f c w super (work.Faults fault) = fails fault c w
   worked f c w super (Calls m a wait w') = enter_within c w' m a wait
-  worked f c w super (Loads class) = if is_array class then loads f c w class [] else loads f c w class (pending w class)
+  worked f c w super (Loads class) = if is_array class then gives_class f c w class else loads f c w class (pending w class)
   worked f c w super (Exits status) = stops (Exit status)
   worked f c w super Misuses = stops events.Broken
 

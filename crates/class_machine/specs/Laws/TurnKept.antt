@@ -154,16 +154,19 @@ module _ {P Q : Type 0} (f at : P → Q) (code : Code P) (code' : Code Q) (cs cs
     within_kept c w w' a m z wait true = refl
     within_kept c w w' a m z wait false = enters_kept (Within wait) c w w' a m.name m (Some z) (Pointer z ∷ []) (code.method m.name) (code'.method m.name) (arrives.method m.name)
 
+    class_given : (c : Content P) (w w' : World) (class : List ℕ) → Alike w w' → TK g (Turn.gives_class code cs x c w class) (Turn.gives_class code' cs' y (gc c) w' class)
+    class_given c w w' class a = given_back_kept None false (Some (Pointer (ClassObject class))) c w w' a
+
     loads_kept : (c : Content P) (w w' : World) (class : List ℕ) → Alike (begin cs w class) (begin cs' w' class) → (fs : List (Frame P)) (gs : List (Frame Q)) → AllStart f fs gs →
         TK g (Turn.loads code cs x c w class fs) (Turn.loads code' cs' y (gc c) w' class gs)
-    loads_kept c w w' class a [] gs k = rw k (given_back_kept None false (Some (Pointer (ClassObject class))) c (begin cs w class) (begin cs' w' class) a)
+    loads_kept c w w' class a [] gs k = rw k (class_given c (begin cs w class) (begin cs' w' class) class a)
     loads_kept c w w' class a (h ∷ fs) gs k = rw k.3 (begin cs' w' class, a, _, (k.0, k.1, k.2, refl, k.4), refl)
 
-    loads_either : (c : Content P) (w w' : World) (class : List ℕ) → BeginsAlike f code code' cs cs' Alike class w w' → (b : Bool) →
-        TK g (if b then Turn.loads code cs x c w class [] else Turn.loads code cs x c w class (Turn.pending code cs w class))
-        (if b then Turn.loads code' cs' y (gc c) w' class [] else Turn.loads code' cs' y (gc c) w' class (Turn.pending code' cs' w' class))
-    loads_either c w w' class k true = loads_kept c w w' class k.marked [] [] refl
-    loads_either c w w' class k false = loads_kept c w w' class k.marked (Turn.pending code cs w class) (Turn.pending code' cs' w' class) k.frames
+    loads_either : (c : Content P) (w w' : World) (class : List ℕ) → Alike w w' → BeginsAlike f code code' cs cs' Alike class w w' → (b : Bool) →
+        TK g (if b then Turn.gives_class code cs x c w class else Turn.loads code cs x c w class (Turn.pending code cs w class))
+        (if b then Turn.gives_class code' cs' y (gc c) w' class else Turn.loads code' cs' y (gc c) w' class (Turn.pending code' cs' w' class))
+    loads_either c w w' class a k true = class_given c w w' class a
+    loads_either c w w' class a k false = loads_kept c w w' class k.marked (Turn.pending code cs w class) (Turn.pending code' cs' w' class) k.frames
 
     pub worked_kept : (c : Content P) (w w' : World) → Alike w w' → (super : Bool) (r r' : Work) → WorkKept Alike r r' → ((class : List ℕ) → r ≡ Loads class → BeginsAlike f code code' cs cs' Alike class w w') →
         TK g (Turn.worked code cs x c w super r) (Turn.worked code' cs' y (gc c) w' super r')
@@ -171,7 +174,7 @@ module _ {P Q : Type 0} (f at : P → Q) (code : Code P) (code' : Code Q) (cs cs
     worked_kept c w w' a super (Throws z u) r' k h = rw k.2 (k.0, k.1, refl)
     worked_kept c w w' a super (work.Faults fault) r' k h = rw k (fails_kept g fault c w w' a)
     worked_kept c w w' a super (Calls m z wait u) r' k h = rw k.2 (within_kept c u k.0 k.1 m z wait m.is_native)
-    worked_kept c w w' a super (Loads class) r' k h = rw k (loads_either c w w' class (h class refl) (is_array class))
+    worked_kept c w w' a super (Loads class) r' k h = rw k (loads_either c w w' class a (h class refl) (is_array class))
     worked_kept c w w' a super (Exits status) r' k h = rw k refl
     worked_kept c w w' a super Misuses r' k h = tt
 
