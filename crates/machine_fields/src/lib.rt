@@ -19,6 +19,6 @@ pub use laws::{
     fields_apart, first_field_named, first_field_numbered, found_is_field, found_is_first,
     program_is_distinct,
 };
-pub use new_objects::make_object;
+pub use new_objects::{element_of, field_types, make_object};
 pub use objects::{class_at, is_object_below, may_hold};
 pub use positions::{cause_position, field_position, message_position, value_position};

@@ -21,8 +21,8 @@ use machine_requests::make;
 use machine_values::{Heap, Ref};
 use std::alloc::{AllocError, Global};
 
-// What a field of the descriptor holds.
-fn element_of(descriptor: &[u8]) -> Element
+/// What a field of the descriptor holds.
+pub fn element_of(descriptor: &[u8]) -> Element
     ensures { result ≡ machine.element_of descriptor.now }
 {
     match descriptor {
@@ -126,8 +126,12 @@ fn push_head(types: &mut Vec<FieldType>, head: &ClassHead) -> Result<(), AllocEr
     push_hidden(types, head.name.as_slice())
 }
 
-// The types of the fields of an object of the class.
-fn field_types(alloc: Global, world: &World, class: ClassId) -> Result<Vec<FieldType>, AllocError>
+/// The types of the fields of an object of the class, in their order (JVMS 2.5.1).
+pub fn field_types(
+    alloc: Global,
+    world: &World,
+    class: ClassId,
+) -> Result<Vec<FieldType>, AllocError>
     requires { class.0 < length world.now.heads }
     ensures { IfOk result (λ types. held_by types.items ≡ asked_by (flat_map (in_place world.now.heads) (superclasses world.now.heads class.0))) }
 {

@@ -27,10 +27,11 @@ mod undoing;
 pub use calls::{Call, Receiver, call_on, call_static};
 pub use effect::{Effect, Request};
 pub use instructions::perform;
+pub use kinds::{is_of, is_same_kind};
 pub use named::{
     Written, get_field, pop_object, push_constant, put_field, put_static, room_for, switch,
 };
 pub use peeks::{can_call_static, can_put_static};
 pub use sizes::{pop_size, pop_sizes};
-pub use tokens::{announce, fill_in};
+pub use tokens::{announce, fill_in, next_number};
 pub use undoing::{put_back, put_call_back, put_sizes_back, restore};

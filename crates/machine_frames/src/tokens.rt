@@ -63,9 +63,9 @@ fn highest_in(locals: &[Local]) -> u64
     most
 }
 
-// One more than the highest number of a token in the frame.
+/// The number of the next token of the frame: one more than the highest one, if it has 64 bits.
 #[tactic(auto, using(crate::proofs::Fresh::highest_reverse))]
-fn next_number(frame: &Frame) -> Option<u64>
+pub fn next_number(frame: &Frame) -> Option<u64>
     ensures { MatchOption result (2 ^ 64 ≤ 1 + max (highest frame.now.operands.values) (highest_in frame.now.locals)) (λ n. n ≡ 1 + max (highest frame.now.operands.values) (highest_in frame.now.locals)) }
 {
     let most = larger(

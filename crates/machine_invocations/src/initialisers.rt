@@ -186,6 +186,7 @@ pub fn begin(state: &mut MachineState, world: &World, class: ClassId) -> Result<
     requires formed { IsFormed world.now state.old }
     requires class { class.0 < length world.now.heads }
     ensures begun { IfOk result (λ some. (m : Machine) (answers : List Answer) (t : State Place) → IsMachine world.now m → Runs m state.old answers t → Begins m state.new answers t (name_at world.now.heads class.0) some) }
+    ensures rest { state.new ≡ record state.old { frames = state.new.frames; begun = state.new.begun } }
     ensures formed { IsFormed world.now state.new }
     ensures err { OnErr result (Keeps world.now state.old state.new) }
 {

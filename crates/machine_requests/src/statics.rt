@@ -85,7 +85,8 @@ pub fn put_static(
     value: Value,
 ) -> Reply
     requires { field.0 < length statics.old }
-    ensures { (things : Things) (others : Others) (r : Reference) → others.statics ≡ statics.old → Settled (length things.names) value
+    ensures len { length statics.new ≡ length statics.old }
+    ensures answer { (things : Things) (others : Others) (r : Reference) → others.statics ≡ statics.old → Settled (length things.names) value
         → IsAnswerWhere (λ s. IsField r field.0 element s × AreApart (length others.statics) s) things others (λ s names. PutStatic r (held s.heads names value)) things (with_statics others statics.new) result }
 {
     statics.set(field.0 as usize, Some(kept_value(element, value)));

@@ -15,6 +15,7 @@ mod unwinding;
 
 pub use going::{give, go_on};
 pub use leaving::leave;
+pub use messages::message_of;
 pub use raising::{fail, raise};
 pub use running::{class_name, code_of_method, running_code, stands_at};
 pub use step::Step;

@@ -57,7 +57,7 @@ fn field_value(heap: &Heap, at: Ref, index: u32) -> Value
 }
 
 /// The message of the exception, in memory of its own; none where it is null.
-pub(crate) fn message_of(
+pub fn message_of(
     state: &MachineState,
     world: &World,
     class: ClassId,

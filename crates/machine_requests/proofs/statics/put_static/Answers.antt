@@ -9,8 +9,8 @@ use Rattle.machine_requests.specs.Replies.{IsAnswerWhere}
 use Rattle.machine_requests.proofs.StaticLaws.{static_written}
 use Rattle.machine_requests.proofs.statics.put_static.Goals as goal
 
-pub returns : goal.returns
-returns c things others r same settled =
+pub returns-clause-answer : goal.returns-clause-answer
+returns-clause-answer c things others r same settled =
     let n = c.args.field.0 in
     let e = c.args.element in
     let v = c.args.value in
