@@ -1,0 +1,10 @@
+pub mod Forms
+pub mod Returnless
+pub mod Bare
+pub mod Asked
+pub mod Answered
+pub mod Onward
+pub mod Thrown
+pub mod Executed
+pub mod Kept
+pub mod Restored
