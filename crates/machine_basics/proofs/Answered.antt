@@ -1,6 +1,5 @@
 -- What a reply makes of the running frame is what the machine makes of it by its answer.
-use Rattle.std.specs.Prelude.{◌≡◌, ℕ, ◌+◌, ◌≤◌, Bool, true, false, if◌then◌else◌, nat_le, is_some, List, [], ◌∷◌, ◌++◌, map, reverse, length, Option, Some, None, ℤ, refl}
-use Rattle.std.specs.List.{AllByRecursion}
+use Rattle.std.specs.Prelude.{◌≡◌, ℕ, ◌+◌, ◌≤◌, Bool, true, false, if◌then◌else◌, nat_le, is_some, List, [], ◌∷◌, map, reverse, length, Option, ℤ, refl}
 use Rattle.std.proofs.Common.{sym, ◌∙◌, ap, subst, arith, length-append}
 use Rattle.class_heads.specs.declared.types.ClassHead.{ClassHead}
 use Rattle.class_file.specs.Pool.{Reference}
@@ -19,7 +18,6 @@ use Rattle.class_machine.specs.ClassFiles.{Place, class_code}
 use Rattle.machine_values.specs.declared.values.Value.{Value}
 use Rattle.machine_values.specs.declared.values.Value.TheVariants.{Int, Long, Float, Double, Null, Reference as Pointer, Token, ReturnAddress}
 use Rattle.machine_values.specs.declared.names.Name.{Name}
-use Rattle.machine_values.specs.declared.frames.Frame.{Frame}
 use Rattle.machine_values.specs.declared.script.Answer.{Answer}
 use Rattle.machine_values.specs.declared.state.MachineState.{MachineState}
 use Rattle.machine_values.specs.Stacks as stacks
@@ -28,8 +26,7 @@ use Rattle.machine_values.specs.States.{value_in, machine_due, IsFrameWithin}
 use Rattle.machine_requests.specs.declared.reply.Reply.{Reply}
 use Rattle.machine_requests.specs.declared.reply.Reply.TheVariants.{Gives, Done, Faults, Refuses}
 use Rattle.machine_requests.specs.Growth.{frames_stay, due_stays}
-use Rattle.machine_requests.specs.Objects.{AreFilled}
-use Rattle.machine_requests.specs.Replies.{Replies, IsLonger}
+use Rattle.machine_requests.specs.Replies.{Replies}
 use Rattle.machine_requests.specs.Shares.{Shares, others_of}
 use Rattle.machine_frames.specs.declared.effect.Request.{Request}
 use Rattle.machine_frames.specs.declared.effect.Request.TheVariants.{MakeArray, ArrayLoad, ArrayStore, ArrayLength, EnterMonitor, LeaveMonitor}

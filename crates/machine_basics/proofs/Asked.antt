@@ -2,12 +2,12 @@
 -- slot, but for an element.
 use Rattle.std.specs.Prelude.{◌≡◌, ℕ, zero, suc, Bool, true, false, if◌then◌else◌, List, [], ◌∷◌, Option, Some, None, ℤ, pos, negsuc, length, slice_get, slice_set, refl}
 use Rattle.std.specs.List.{list_any}
-use Rattle.std.proofs.Common.{sym, ◌∙◌, ap}
+use Rattle.std.proofs.Common.{sym, ◌∙◌}
 use Rattle.std.proofs.lemmas.Bool.{false≢true}
 use Rattle.class_machine.specs.Classes.{Classes}
-use Rattle.class_machine.specs.Values.{Name, Held, Null, Reference as Pointer, held_width, class_of}
+use Rattle.class_machine.specs.Values.{Name, Held, held_width, class_of}
 use Rattle.class_machine.specs.Numbers.{count_int}
-use Rattle.class_machine.specs.Descriptors.{blank, element_of, elements_of, held_in, narrowed, primitive}
+use Rattle.class_machine.specs.Descriptors.{elements_of, held_in, narrowed, primitive}
 use Rattle.class_machine.specs.World.{World, Object, Instance, Array, Text, object_at, set_object, with_object, next_name, count_in, enter_monitor}
 use Rattle.class_machine.specs.declared.kinds.Fault.{Fault}
 use Rattle.class_machine.specs.Answers

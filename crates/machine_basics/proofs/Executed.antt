@@ -1,12 +1,10 @@
 -- What becomes of the running frame by the effect that an instruction had on it is what executing the instruction makes of it.
-use Rattle.std.specs.Prelude.{◌≡◌, ℕ, ◌+◌, ◌<◌, ◌≤◌, Bool, true, false, if◌then◌else◌, is_some, nat_le, List, [], ◌∷◌, ◌++◌, map, reverse, length, Option, Some, None, refl}
+use Rattle.std.specs.Prelude.{◌≡◌, ℕ, ◌+◌, ◌≤◌, Bool, true, false, if◌then◌else◌, is_some, List, [], ◌∷◌, ◌++◌, map, reverse, length, Option, None, refl}
 use Rattle.std.specs.List.{AllByRecursion}
 use Rattle.std.specs.Option.{option_map}
 use Rattle.std.proofs.Common.{sym, ◌∙◌, ap, subst, arith}
 use Rattle.std.proofs.lemmas.Bool.{false≢true, le-leb}
-use Rattle.class_heads.specs.declared.types.ClassHead.{ClassHead}
 use Rattle.class_world.specs.Tables.{Known}
-use Rattle.class_machine.specs.declared.kinds.Fault.{Fault}
 use Rattle.class_machine.specs.declared.meaning.Basic.{Basic}
 use Rattle.class_machine.specs.Answers as answers
 use Rattle.class_machine.specs.Answers.{answer}
@@ -37,24 +35,24 @@ use Rattle.machine_values.specs.Stacks.{weight}
 use Rattle.machine_values.specs.Standing.{name_of}
 use Rattle.machine_values.specs.States.{IsFrameWithin}
 use Rattle.machine_values.specs.Things.{Things}
-use Rattle.machine_requests.specs.Telling.{AreDistinct, AreFit}
+use Rattle.machine_requests.specs.Telling.{AreDistinct}
 use Rattle.machine_requests.specs.TellingLaws.{places_tell}
 use Rattle.machine_frames.specs.declared.effect.Effect.{Effect}
 use Rattle.machine_frames.specs.declared.effect.Effect.TheVariants as effects
 use Rattle.machine_frames.specs.declared.effect.Request.{Request}
 use Rattle.machine_frames.specs.declared.effect.Request.TheVariants.{MakeArray, ArrayLoad, ArrayStore, ArrayLength, EnterMonitor, LeaveMonitor}
-use Rattle.machine_frames.specs.Naming.{Naming, Faithful}
+use Rattle.machine_frames.specs.Naming.{Faithful}
 use Rattle.machine_frames.specs.Effects.{effect_in, request_in, operands_of, locals_of, setting, Does, Keeps, raises, is_effect_within}
-use Rattle.machine_frames.specs.Undoing.{taken_by, IsTaken, Undoes}
+use Rattle.machine_frames.specs.Undoing.{IsTaken, Undoes}
 use Rattle.machine_steps.specs.declared.step.Step.{Step}
 use Rattle.machine_steps.specs.declared.step.Step.TheVariants.{Ended}
 use Rattle.machine_steps.specs.Executing.{executes}
 use Rattle.machine_steps.specs.Giving.{naming_of}
 use Rattle.machine_steps.specs.Going.{moves_turned}
-use Rattle.machine_steps.specs.Moves.{Turning, moved_by, Moves}
+use Rattle.machine_steps.specs.Moves.{Turning, Moves}
 use Rattle.machine_steps.specs.Programs.{Machine, IsMachine}
-use Rattle.machine_steps.specs.Running.{seen_by, waiting, all_last, moves_at, Turned}
-use Rattle.machine_steps.specs.Runs.{Runs, Stepped}
+use Rattle.machine_steps.specs.Running.{seen_by, waiting, all_last, Turned}
+use Rattle.machine_steps.specs.Runs.{Runs}
 use Rattle.machine_basics.specs.Turns.{takes}
 use Rattle.machine_basics.specs.Performed.{is_return, asks_anything, IsPerformed}
 use Rattle.machine_basics.specs.Replied.{HasRoom}

@@ -1,5 +1,5 @@
 -- What refused calls leave of a state.
-use Rattle.std.specs.Prelude.{◌≡◌, ℕ, Bool, true, false, List, [], ◌∷◌, ◌++◌, length, Option, Result, Ok, Err, IfOk, OnErr, refl}
+use Rattle.std.specs.Prelude.{◌≡◌, Bool, true, false, List, [], length, Option, Result, Ok, Err, IfOk, OnErr}
 use Rattle.std.proofs.Common.{sym, ◌∙◌, ap, subst}
 use Rattle.std.specs.List.{AllByRecursion}
 use Rattle.std.proofs.lemmas.List.{append-nil}
@@ -7,7 +7,6 @@ use Rattle.class_heads.specs.declared.types.ClassHead.{ClassHead}
 use Rattle.class_world.specs.Tables.{Known}
 use Rattle.class_machine.specs.Classes.{Classes}
 use Rattle.class_machine.specs.World.{World}
-use Rattle.class_machine.specs.declared.kinds.Fault.{Fault}
 use Rattle.class_machine.specs.declared.meaning.Basic.{Basic}
 use Rattle.class_machine.specs.Answers as answers
 use Rattle.class_machine.specs.Answers.{answer, may_hold}
@@ -20,8 +19,6 @@ use Rattle.machine_requests.specs.Arrays.{Holds}
 use Rattle.machine_requests.specs.Telling.{AreDistinct, AreFit}
 use Rattle.machine_fields.specs.Settings.{world_setting}
 use Rattle.machine_values.specs.declared.frames.Frame.{Frame}
-use Rattle.machine_values.specs.declared.names.Name.{Name}
-use Rattle.machine_values.specs.declared.state.Due.{Due}
 use Rattle.machine_values.specs.declared.state.MachineState.{MachineState}
 use Rattle.machine_requests.specs.declared.reply.Reply.{Reply}
 use Rattle.machine_requests.specs.declared.reply.Reply.TheVariants.{Gives, Done, Faults, Refuses}
@@ -142,4 +139,3 @@ keeps_restored k old mid left new basic e performed keeps restores fails =
           (keeps.filled m w is (subst (λ (s : MachineState). Shares m.setting s.heap (others_of s) w) (sym performed.turned.same) shares)
           (subst (λ (s : MachineState). AreFilled s.heap m.setting) (sym performed.turned.same) filled));
     }
-

@@ -1,8 +1,8 @@
 -- On at the targets of an instruction.
-use Rattle.std.specs.Prelude.{◌≡◌, ℕ, zero, suc, ◌+◌, ◌<◌, nat_le, Bool, true, false, if◌then◌else◌, is_some, List, [], ◌∷◌, ◌++◌, map, reverse, length, Option, Some, None, refl}
-use Rattle.std.proofs.Common.{sym, ap, ◌∙◌, subst, arith}
+use Rattle.std.specs.Prelude.{◌≡◌, ℕ, ◌+◌, ◌<◌, nat_le, Bool, true, false, if◌then◌else◌, is_some, List, [], ◌∷◌, ◌++◌, map, reverse, Some, None, refl}
+use Rattle.std.proofs.Common.{sym, ap, ◌∙◌, subst}
 use Rattle.std.proofs.lemmas.Bool.{lt-leb}
-use Rattle.std.specs.Option.{option_map, option_and_then}
+use Rattle.std.specs.Option.{option_and_then}
 use Rattle.class_world.specs.Tables.{Known}
 use Rattle.class_machine.specs.ClassFiles.{Place, place_in, line_at, next_pc, target_pc, method_code, class_code}
 use Rattle.class_machine.specs.Events as events
@@ -11,18 +11,15 @@ use Rattle.class_machine.specs.Machine.{State, moved}
 use Rattle.class_machine.specs.Turn as turns
 use Rattle.class_machine.specs.Values as machine
 use Rattle.class_machine.specs.Values.{Content, content, has_room, pushed_on}
-use Rattle.class_machine.specs.World.{World}
 use Rattle.machine_code.specs.declared.method_code.MethodCode as lent
 use Rattle.machine_code.specs.Views.{code_seen}
 use Rattle.machine_values.specs.declared.frames.Frame.{Frame}
 use Rattle.machine_values.specs.declared.names.Name.{Name}
-use Rattle.machine_values.specs.declared.values.Value.{Value}
 use Rattle.machine_values.specs.declared.values.Value.TheVariants.{ReturnAddress}
 use Rattle.machine_values.specs.declared.observed.Ending.TheVariants.{Broken}
 use Rattle.machine_values.specs.declared.script.Answer.{Answer}
 use Rattle.machine_values.specs.declared.state.MachineState.{MachineState}
-use Rattle.machine_values.specs.Stacks.{Stack, Pushes, Overflows, weight, width}
-use Rattle.machine_values.specs.States.{IsFrameWithin}
+use Rattle.machine_values.specs.Stacks.{weight}
 use Rattle.machine_steps.specs.declared.step.Step.{Step}
 use Rattle.machine_steps.specs.declared.step.Step.TheVariants.{Ended}
 use Rattle.machine_steps.specs.Giving.{with_values}

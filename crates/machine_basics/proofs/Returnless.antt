@@ -3,7 +3,7 @@
 use Rattle.std.specs.Prelude.{◌≡◌, ℕ, Bool, true, false, if◌then◌else◌, List, [], ◌∷◌, Option, Some, None, ℤ, pos, refl}
 use Rattle.std.specs.Int.{w8, w16, w32, w64, int_wrapping_add, int_wrapping_neg}
 use Rattle.std.proofs.lemmas.Bool.{false≢true}
-use Rattle.std.proofs.Common.{sym, ap}
+use Rattle.std.proofs.Common.{sym}
 use Rattle.class_machine.specs.declared.kinds.Kind.{Kind}
 use Rattle.class_machine.specs.declared.kinds.Conversion.{Conversion}
 use Rattle.class_machine.specs.declared.kinds.Conversion.TheVariants.{IntToLong, LongToInt, IntToByte, IntToChar, IntToShort}

@@ -25,7 +25,7 @@ use Rattle.machine_values.specs.declared.script.Answer.{Answer}
 use Rattle.machine_values.specs.declared.state.MachineState.{MachineState}
 use Rattle.machine_values.specs.Standing.{maker_name, name_in, name_of}
 use Rattle.machine_values.specs.Types.{type_name}
-use Rattle.machine_requests.specs.Telling.{AreDistinct, AreFit, is_plain_base, is_fit_maker, is_fit}
+use Rattle.machine_requests.specs.Telling.{AreDistinct, AreFit, is_plain_base, is_fit_maker}
 use Rattle.machine_requests.specs.TellingLaws.{array_is_array, fit_at}
 use Rattle.machine_steps.specs.declared.step.Step.{Step}
 use Rattle.machine_steps.specs.declared.step.Step.TheVariants.{Ended}

@@ -1,5 +1,5 @@
 -- What the heap and the monitors answer to the running frame of a state.
-use Rattle.std.specs.Prelude.{◌≡◌, ℕ, ◌+◌, Bool, true, false, nat_le, List, [], ◌∷◌, ◌++◌, length, Option, Some, None}
+use Rattle.std.specs.Prelude.{◌≡◌, ℕ, ◌+◌, Bool, true, false, nat_le, List, [], ◌∷◌, ◌++◌, Option, Some, None}
 use Rattle.aj_names.specs.declared.types.Base.{Base}
 use Rattle.aj_names.specs.Descriptors.{base_spelling}
 use Rattle.class_world.specs.Tables.{Known}

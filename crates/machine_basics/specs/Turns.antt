@@ -1,5 +1,5 @@
 -- What becomes of the running frame of a state, by the effect that an instruction had on it and by what it is answered.
-use Rattle.std.specs.Prelude.{ℕ, Bool, false, if◌then◌else◌, Option, Some, None}
+use Rattle.std.specs.Prelude.{ℕ, false, if◌then◌else◌, Some, None}
 use Rattle.class_machine.specs.declared.kinds.Fault.{Fault}
 use Rattle.class_machine.specs.Values.{class_of, throwable_class, ReturnAddress, pushed_on, has_room}
 use Rattle.class_machine.specs.Events as events

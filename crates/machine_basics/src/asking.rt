@@ -21,12 +21,7 @@ use machine_values::{MachineState, Ref, Value};
 use std::alloc::AllocError;
 
 /// The element at the index.
-pub(crate) fn load(
-    state: &MachineState,
-    element: Element,
-    array: Option<Ref>,
-    index: i32,
-) -> Reply
+pub(crate) fn load(state: &MachineState, element: Element, array: Option<Ref>, index: i32) -> Reply
     requires { is_known_object (length state.now.heap.names) array ≡ true }
     ensures { (k : Known) → IsReply k state.now (request.ArrayLoad element array index) state.now result }
 {
@@ -94,10 +89,7 @@ pub(crate) fn make(
 }
 
 /// Enters the monitor of the object.
-pub(crate) fn enter(
-    state: &mut MachineState,
-    object: Option<Ref>,
-) -> Result<Reply, AllocError>
+pub(crate) fn enter(state: &mut MachineState, object: Option<Ref>) -> Result<Reply, AllocError>
     requires { is_known_object (length state.old.heap.names) object ≡ true }
     ensures entered { IfOk result (λ reply. (k : Known) → IsReply k state.old (request.EnterMonitor object) state.new reply) }
     ensures err { OnErr result ((k : Known) → Keeps k state.old state.new) }

@@ -96,11 +96,7 @@ fn ask_load(
 }
 
 // What the heap or the monitors answer.
-fn reply_to(
-    state: &mut MachineState,
-    world: &World,
-    request: &Request,
-) -> Result<Reply, AllocError>
+fn reply_to(state: &mut MachineState, world: &World, request: &Request) -> Result<Reply, AllocError>
     requires runnable { IsRunnable world.now }
     requires formed { IsFormed world.now state.old }
     requires known { is_request_within (length state.old.heap.names) request.now ≡ true }

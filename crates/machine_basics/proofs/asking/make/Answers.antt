@@ -1,4 +1,4 @@
-use Rattle.std.specs.Prelude.{◌≡◌, ℕ, ℤ, nat_lt, List, [], ◌∷◌, None, refl}
+use Rattle.std.specs.Prelude.{ℕ, ℤ, nat_lt, List, [], ◌∷◌, None, refl}
 use Rattle.std.proofs.Common.{ap, subst}
 use Rattle.std.proofs.lemmas.Bool.{and_from}
 use Rattle.std.specs.Int.{w32}
@@ -10,7 +10,7 @@ use Rattle.machine_requests.specs.Replies.{Replies}
 use Rattle.machine_requests.specs.Shares.{others_of}
 use Rattle.machine_requests.specs.Telling.{is_plain_base}
 use Rattle.machine_basics.proofs.Bare.{bare_types}
-use Rattle.machine_basics.proofs.Kept.{distinct_of, both_ok, if_err}
+use Rattle.machine_basics.proofs.Kept.{distinct_of, both_ok}
 use Rattle.machine_basics.proofs.Restored.{if_ok}
 use Rattle.machine_basics.proofs.asking.make.Goals as goal
 

@@ -1,5 +1,4 @@
-use Rattle.std.specs.Prelude.{◌≡◌, true, false, length}
-use Rattle.std.proofs.Common.{arith, sym, ◌∙◌, ap, subst}
+use Rattle.std.proofs.Common.{arith, sym, ◌∙◌, ap}
 use Rattle.std.proofs.lemmas.Bool.{false≢true, eqb-true}
 use Rattle.machine_frames.specs.Effects.{is_effect_within}
 use Rattle.class_machine.specs.Operations.{Do}

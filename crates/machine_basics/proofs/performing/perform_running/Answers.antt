@@ -1,4 +1,4 @@
-use Rattle.std.specs.Prelude.{◌-◌, take, refl}
+use Rattle.std.specs.Prelude.{◌-◌, refl}
 use Rattle.std.proofs.Common.{arith}
 use Rattle.std.proofs.lemmas.Option.{slice_get_read}
 use Rattle.std.specs.Vec.{with_item}

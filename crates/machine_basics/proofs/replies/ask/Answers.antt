@@ -1,9 +1,8 @@
-use Rattle.std.specs.Prelude.{ℤ, true, false, length, IfOk}
+use Rattle.std.specs.Prelude.{ℤ, length, IfOk}
 use Rattle.std.specs.Int.{w32}
 use Rattle.std.proofs.lemmas.Int.{to_z-of_z}
 use Rattle.std.proofs.Common.{rules, sym, ◌∙◌, ap, subst}
 use Rattle.machine_values.specs.declared.state.MachineState.{MachineState}
-use Rattle.machine_requests.specs.declared.reply.Reply.{Reply}
 use Rattle.machine_frames.specs.declared.effect.Request.{Request}
 use Rattle.machine_frames.specs.declared.effect.Request.TheVariants.{ArrayLoad}
 use Rattle.machine_frames.specs.Effects.{is_request_within}

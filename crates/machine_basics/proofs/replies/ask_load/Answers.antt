@@ -2,7 +2,6 @@ use Rattle.std.specs.Prelude.{ℤ, length}
 use Rattle.std.specs.Int.{w32}
 use Rattle.std.proofs.Common.{subst}
 use Rattle.std.proofs.lemmas.Int.{to_z-of_z}
-use Rattle.machine_requests.specs.declared.reply.Reply.{Reply}
 use Rattle.machine_frames.specs.declared.effect.Request.TheVariants.{ArrayLoad}
 use Rattle.machine_basics.specs.Replied.{IsReply, IsSettledReply}
 use Rattle.machine_basics.proofs.Kept.{both_ok, ok_under}

@@ -1,4 +1,4 @@
-use Rattle.std.specs.Prelude.{◌&&◌, Bool, true, ℤ, length, IfOk}
+use Rattle.std.specs.Prelude.{ℤ, length, IfOk}
 use Rattle.std.specs.Int.{w32}
 use Rattle.std.proofs.lemmas.Int.{to_z-of_z}
 use Rattle.machine_frames.specs.declared.effect.Request.TheVariants.{MakeArray, ArrayLoad, ArrayStore}

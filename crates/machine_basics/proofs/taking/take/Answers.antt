@@ -1,4 +1,4 @@
-use Rattle.std.specs.Prelude.{◌≡◌, true, false, length, IfOk, OnErr, refl}
+use Rattle.std.specs.Prelude.{length, IfOk, refl}
 use Rattle.std.proofs.Common.{sym, ◌∙◌, ap, subst}
 use Rattle.std.proofs.lemmas.Bool.{ltb-true}
 use Rattle.machine_frames.specs.declared.effect.Effect.{Effect}

@@ -1,4 +1,4 @@
-use Rattle.std.specs.Prelude.{◌≡◌, Bool, is_some, Option, Some}
+use Rattle.std.specs.Prelude.{◌≡◌, is_some, Option, Some}
 use Rattle.std.proofs.Common.{rules, sym, ◌∙◌, ap}
 use Rattle.class_heads.specs.Hierarchy.{place_of, is_subtype}
 use Rattle.class_machine.specs.Values.{class_of, throwable_class}

@@ -1,4 +1,4 @@
-use Rattle.std.specs.Prelude.{◌≡◌, Bool, is_some}
+use Rattle.std.specs.Prelude.{◌≡◌, is_some}
 use Rattle.std.proofs.Common.{rules, sym, ◌∙◌, ap}
 use Rattle.class_heads.specs.Hierarchy.{place_of}
 use Rattle.machine_basics.proofs.Thrown.{is_some_number, no_class, no_array}
