@@ -1,6 +1,5 @@
 //! On within the running frame (JVMS 3.11.7). Nothing here takes memory.
 
-ghost use Rattle.std.specs.Prelude.{◌≡◌};
 ghost use Rattle.machine_steps.specs.Programs.{IsRunnable};
 ghost use Rattle.machine_steps.specs.Runs.{IsFormed};
 ghost use Rattle.machine_steps.specs.Moves.{Moves};
