@@ -1,6 +1,7 @@
 mod Buffers
 mod Decimals
 mod Declared
+mod Filling
 mod Finished
 mod Giving
 mod Hashes

@@ -1,3 +1,5 @@
+pub mod Filling
+pub mod FillingLaws
 pub mod Finishing
 pub mod Library
 pub mod Selecting

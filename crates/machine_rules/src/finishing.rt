@@ -4,11 +4,13 @@ ghost use Rattle.std.specs.Prelude.{◌≡◌, ◌<◌, ◌++◌, true, length, 
 ghost use Rattle.std.specs.Option.{option_map};
 ghost use Rattle.class_machine.specs.LibraryCalls as calls;
 ghost use Rattle.class_machine.specs.LibraryCalls.{line_feed};
+ghost use Rattle.machine_values.specs.declared.frames.Destination.TheVariants.{Appends};
 ghost use Rattle.machine_values.specs.declared.observed.Event.TheVariants.{Print};
 ghost use Rattle.machine_values.specs.Standing.{name_of};
 ghost use Rattle.machine_values.specs.Things.{text_at as kept_text};
 ghost use Rattle.machine_values.specs.States.{is_known_destination, is_known_object};
 ghost use Rattle.machine_requests.specs.Replies.{IsLonger};
+ghost use Rattle.machine_rules.specs.Filling.{FillsAt, FillsTo};
 ghost use Rattle.machine_rules.specs.Finishing.{Sets, is_made_at, destination_of, reference_to, text_of};
 ghost use Rattle.machine_rules.specs.Library.{HasLibrary};
 ghost use Rattle.machine_rules.specs.Texts.{units_at};
@@ -46,6 +48,7 @@ pub(crate) fn fill(heap: &mut Heap, buffer: Ref, units: &[u16]) -> Result<(), Al
     requires { buffer.0 < length heap.old.names }
     ensures ok { OnOk result (Sets heap.old buffer units.now heap.new) }
     ensures names { heap.new.names ≡ heap.old.names }
+    ensures filled { OnOk result (FillsAt buffer heap.old heap.new) }
     ensures err { OnErr result (heap.new ≡ heap.old) }
 {
     if is_made(heap, buffer) {
@@ -67,6 +70,7 @@ pub(crate) fn append(heap: &mut Heap, buffer: Ref, units: &[u16]) -> Result<(), 
     requires { buffer.0 < length heap.old.names }
     ensures ok { OnOk result (Sets heap.old buffer (units_at heap.old buffer.0 ++ units.now) heap.new) }
     ensures names { heap.new.names ≡ heap.old.names }
+    ensures filled { OnOk result (FillsAt buffer heap.old heap.new) }
     ensures err { OnErr result (heap.new ≡ heap.old) }
 {
     if !is_made(heap, buffer) {
@@ -91,6 +95,7 @@ pub(crate) fn finish_units(
     requires to { is_known_destination (length heap.old.names) to ≡ true }
     ensures work { IfOk result (λ work. Does world.now heap.old (λ s names w. calls.finish_units (destination_of s names to) units.now w) heap.new work) }
     ensures names { IsLonger heap.old heap.new }
+    ensures filled { IfOk result (λ work. FillsTo world.now to heap.old heap.new) }
     ensures err { OnErr result (heap.new ≡ heap.old) }
 {
     match to {
@@ -118,6 +123,7 @@ fn make_and_append(
     requires buffer { buffer.0 < length heap.old.names }
     ensures work { IfOk result (λ work. Does world.now heap.old (λ s names w. calls.finish_made (calls.Appends (name_of s.heads names buffer)) w (Some units.now)) heap.new work) }
     ensures names { IsLonger heap.old heap.new }
+    ensures filled { IfOk result (λ work. FillsTo world.now (Appends buffer) heap.old heap.new) }
     ensures err { OnErr result (heap.new ≡ heap.old) }
 {
     let count = heap.count();
@@ -143,6 +149,7 @@ pub(crate) fn finish_made(
     requires to { is_known_destination (length heap.old.names) to ≡ true }
     ensures work { IfOk result (λ work. Does world.now heap.old (λ s names w. calls.finish_made (destination_of s names to) w (Some units.now)) heap.new work) }
     ensures names { IsLonger heap.old heap.new }
+    ensures filled { IfOk result (λ work. FillsTo world.now to heap.old heap.new) }
     ensures err { OnErr result (heap.new ≡ heap.old) }
 {
     match to {
@@ -195,6 +202,7 @@ pub(crate) fn finish_text(
     requires text { is_known_object (length heap.old.names) text ≡ true }
     ensures work { IfOk result (λ work. Does world.now heap.old (λ s names w. calls.finish_text (destination_of s names to) (option_map (name_of s.heads names) text) (text_of heap.old text) w) heap.new work) }
     ensures names { IsLonger heap.old heap.new }
+    ensures filled { IfOk result (λ work. FillsTo world.now to heap.old heap.new) }
     ensures err { OnErr result (heap.new ≡ heap.old) }
 {
     match to {

@@ -11,6 +11,7 @@ ghost use Rattle.class_machine.specs.Values.{class_of, number_of};
 ghost use Rattle.machine_values.specs.Standing.{name_of, held, Settled};
 ghost use Rattle.machine_values.specs.Things.{Things};
 ghost use Rattle.machine_requests.specs.Replies.{IsLonger};
+ghost use Rattle.machine_rules.specs.Filling.{FillsStill};
 ghost use Rattle.machine_rules.specs.Library.{HasLibrary};
 ghost use Rattle.machine_rules.specs.Texts.{class_object_text, is_same_place};
 ghost use Rattle.machine_rules.specs.Works.{Does};
@@ -77,6 +78,7 @@ pub(crate) fn describe(
     requires at { at.0 < length heap.old.names }
     ensures work { IfOk result (λ work. Does world.now heap.old (λ s names w. calls.on_object s.classes w rule.Describe (name_of s.heads names at)) heap.new work) }
     ensures names { IsLonger heap.old heap.new }
+    ensures filled { IfOk result (λ work. FillsStill world.now heap.old heap.new) }
     ensures err { OnErr result (heap.new ≡ heap.old) }
 {
     let units = description(alloc, heap, world, at)?;
@@ -110,6 +112,7 @@ pub(crate) fn class_name(
     requires at { at.0 < length heap.old.names }
     ensures work { IfOk result (λ work. Does world.now heap.old (λ s names w. calls.class_name w (name_of s.heads names at)) heap.new work) }
     ensures names { IsLonger heap.old heap.new }
+    ensures filled { IfOk result (λ work. FillsStill world.now heap.old heap.new) }
     ensures err { OnErr result (heap.new ≡ heap.old) }
 {
     let text = class_object_text(alloc, heap, at)?;

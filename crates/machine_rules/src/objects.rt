@@ -3,6 +3,7 @@
 ghost use Rattle.std.specs.Prelude.{◌≡◌, ◌<◌, length, IfOk, OnErr};
 ghost use Rattle.std.specs.Option.{option_map};
 ghost use Rattle.machine_requests.specs.Replies.{IsLonger};
+ghost use Rattle.machine_rules.specs.Filling.{FillsStill};
 ghost use Rattle.machine_rules.specs.Finishing.{Grows};
 ghost use Rattle.machine_rules.specs.Library.{HasLibrary};
 ghost use Rattle.machine_rules.specs.Texts.{text_at};
@@ -30,6 +31,7 @@ pub(crate) fn make_string(heap: &mut Heap, world: &World, units: &[u16]) -> Resu
     requires { HasLibrary world.now }
     ensures made { IfOk result (λ at. AddsText world.now heap.old units.now heap.new at) }
     ensures grown { IfOk result (λ at. Grows heap.old heap.new) }
+    ensures filled { IfOk result (λ at. FillsStill world.now heap.old heap.new) }
     ensures names { IsLonger heap.old heap.new }
     ensures err { OnErr result (heap.new ≡ heap.old) }
 {

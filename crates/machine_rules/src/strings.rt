@@ -7,6 +7,7 @@ ghost use Rattle.class_world.specs.Tables.{Known};
 ghost use Rattle.class_machine.specs.LibraryCalls as calls;
 ghost use Rattle.machine_values.specs.Standing.{name_of, held, Settled};
 ghost use Rattle.machine_requests.specs.Replies.{IsLonger};
+ghost use Rattle.machine_rules.specs.Filling.{FillsStill};
 ghost use Rattle.machine_rules.specs.Library.{HasLibrary};
 ghost use Rattle.machine_rules.specs.Texts.{units_at, unit_in, same_units_as, truth_value, part_in};
 ghost use Rattle.machine_rules.specs.Works.{Does};
@@ -37,6 +38,7 @@ pub(crate) fn give_text(heap: &mut Heap, world: &World, units: &[u16]) -> Result
     requires { HasLibrary world.now }
     ensures work { IfOk result (λ work. Does world.now heap.old (λ s names w. calls.new_text units.now w) heap.new work) }
     ensures names { IsLonger heap.old heap.new }
+    ensures filled { IfOk result (λ work. FillsStill world.now heap.old heap.new) }
     ensures err { OnErr result (heap.new ≡ heap.old) }
 {
     let at = make_string(heap, world, units)?;
@@ -135,6 +137,7 @@ pub(crate) fn concat(
     requires other { Settled (length heap.old.names) other }
     ensures work { IfOk result (λ work. Does world.now heap.old (λ s names w. calls.with_argument s.classes w rule.Concat (name_of s.heads names at) (held s.heads names other)) heap.new work) }
     ensures names { IsLonger heap.old heap.new }
+    ensures filled { IfOk result (λ work. FillsStill world.now heap.old heap.new) }
     ensures err { OnErr result (heap.new ≡ heap.old) }
 {
     let all = match text_argument(heap, world, other) {
@@ -168,6 +171,7 @@ pub(crate) fn substring(
     requires at { at.0 < length heap.old.names }
     ensures work { IfOk result (λ work. Does world.now heap.old (λ s names w. calls.substring w (calls.units_in w (name_of s.heads names at)) begin end) heap.new work) }
     ensures names { IsLonger heap.old heap.new }
+    ensures filled { IfOk result (λ work. FillsStill world.now heap.old heap.new) }
     ensures err { OnErr result (heap.new ≡ heap.old) }
 {
     let units = match part(units_at(heap, at), begin, end) {

@@ -2,6 +2,8 @@ use Rattle.std.proofs.Common.{sym, ◌∙◌, subst}
 use Rattle.std.proofs.lemmas.Result.{on_ok_weaker}
 use Rattle.machine_rules.specs.Finishing.{Sets}
 use Rattle.machine_rules.proofs.Buffers.{set_made, set_fixed}
+use Rattle.machine_rules.specs.Filling.{FillsAt}
+use Rattle.machine_rules.proofs.Filling.{text_changed, kept_at}
 use Rattle.machine_rules.proofs.finishing.fill.Goals as goal
 
 pub returns-then-is_made-clause-ok : goal.returns-then-is_made-clause-ok
@@ -11,3 +13,9 @@ returns-then-is_made-clause-ok c =
 
 pub returns-else-is_made-clause-ok : goal.returns-else-is_made-clause-ok
 returns-else-is_made-clause-ok c = set_fixed c.args.heap.now c.args.buffer c.args.units.now c.requires (sym c.is_made.ensures ∙ c.if-is_made.false)
+
+pub returns-then-is_made-clause-filled : goal.returns-then-is_made-clause-filled
+returns-then-is_made-clause-filled c = on_ok_weaker c.set_text.result (λ e. subst (FillsAt c.args.buffer c.args.heap.now) (sym e) (text_changed c.args.heap.now c.args.buffer _)) c.set_text.ensures.ok
+
+pub returns-else-is_made-clause-filled : goal.returns-else-is_made-clause-filled
+returns-else-is_made-clause-filled c = kept_at c.args.heap.now c.args.buffer

@@ -1,4 +1,5 @@
 use Rattle.machine_rules.proofs.Finished.{made_appended, restored}
+use Rattle.machine_rules.proofs.Filling.{made_and_set}
 use Rattle.machine_rules.proofs.finishing.make_and_append.Goals as goal
 
 pub returns-in-Ok-clause-work : goal.returns-in-Ok-clause-work
@@ -9,3 +10,7 @@ returns-in-Ok-clause-work c =
 pub returns-in-Err-clause-err : goal.returns-in-Err-clause-err
 returns-in-Err-clause-err c =
     restored c.args.heap.now c.make_string.new.heap c.append.new.heap c.truncate.new.self c.count-count.result c.in_ok-make_string.ensures.grown c.in-Err.ensures.err c.count-count.ensures.count c.count-count.ensures.contents c.truncate.ensures.names c.truncate.ensures.contents
+
+pub returns-in-Ok-clause-filled : goal.returns-in-Ok-clause-filled
+returns-in-Ok-clause-filled c =
+    made_and_set c.args.world.now c.args.buffer c.args.heap.now c.make_string.new.heap c.append.new.heap c.in_ok-make_string.ensures.filled c.make_string.ensures.names c.in-Ok.ensures.filled c.requires.buffer

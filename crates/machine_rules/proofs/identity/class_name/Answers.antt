@@ -1,12 +1,11 @@
-use Rattle.std.proofs.Common.{List, ℕ, sym, ap, ◌∙◌, subst}
+use Rattle.std.proofs.Common.{sym, ap, ◌∙◌}
 use Rattle.std.specs.Prelude.{Some, None}
 use Rattle.std.specs.Option.{option_map}
 use Rattle.std.proofs.lemmas.Result.{IfOk-weaker}
-use Rattle.class_machine.specs.LibraryCalls as calls
 use Rattle.machine_rules.specs.declared.work.Work.TheVariants.{Misuses}
-use Rattle.machine_rules.specs.Works.{Does}
 use Rattle.machine_rules.proofs.Giving.{misuse_done}
 use Rattle.machine_rules.proofs.IdentityWork.{class_name_done}
+use Rattle.machine_rules.proofs.Filling.{kept_still}
 use Rattle.machine_rules.proofs.identity.class_name.Goals as goal
 
 pub returns-in-Some-clause-work : goal.returns-in-Some-clause-work
@@ -23,3 +22,6 @@ returns-in-None-clause-work c =
     let k = c.args.world.now in
     let things = c.args.heap.now in
     class_name_done k things c.args.at None things Misuses c.requires.at (sym c.in_ok-text.ensures ∙ ap (option_map (λ units. units.items)) c.in-None.is) (misuse_done k things)
+
+pub returns-in-None-clause-filled : goal.returns-in-None-clause-filled
+returns-in-None-clause-filled c = kept_still c.args.world.now c.args.heap.now

@@ -4,6 +4,8 @@ use Rattle.machine_values.specs.Things.{Things}
 use Rattle.machine_rules.specs.Finishing.{Grows}
 use Rattle.machine_rules.specs.Works.{AddsText}
 use Rattle.machine_rules.proofs.Standing.{string_made, string_grows}
+use Rattle.machine_rules.specs.Filling.{FillsStill}
+use Rattle.machine_rules.proofs.Filling.{string_filled}
 use Rattle.machine_rules.proofs.objects.make_string.Goals as goal
 
 pub returns-clause-made : goal.returns-clause-made
@@ -18,3 +20,10 @@ returns-clause-made c =
 pub returns-clause-grown : goal.returns-clause-grown
 returns-clause-grown c =
     IfOk-weaker c.make_text.result _ _ (λ at made. subst (λ (p : ℕ × Things). Grows c.args.heap.now p.1) (sym made) (string_grows c.args.heap.now c.args.units.now c.string_class.result)) c.make_text.ensures.ok
+
+pub returns-clause-filled : goal.returns-clause-filled
+returns-clause-filled c =
+    IfOk-weaker c.make_text.result _ _ (λ at made.
+    subst (λ (p : ℕ × Things). FillsStill c.args.world.now c.args.heap.now p.1) (sym made)
+    (string_filled c.args.world.now c.args.heap.now c.args.units.now c.string_class.result c.string_class.ensures.name))
+    c.make_text.ensures.ok

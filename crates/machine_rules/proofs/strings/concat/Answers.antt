@@ -7,6 +7,7 @@ use Rattle.machine_rules.specs.declared.work.Work.TheVariants.{Faults, Misuses}
 use Rattle.machine_rules.specs.Works.{Does}
 use Rattle.machine_rules.proofs.Giving.{fault_done, misuse_done}
 use Rattle.machine_rules.proofs.StringWork.{concat_done}
+use Rattle.machine_rules.proofs.Filling.{kept_still}
 use Rattle.machine_rules.proofs.strings.concat.Goals as goal
 
 pub returns-in-Nothing-clause-work : goal.returns-in-Nothing-clause-work
@@ -30,3 +31,9 @@ returns-clause-work c =
     (subst (λ (l : List ℕ). Does k things (λ s ns w. calls.new_text l w) c.give_text.new.heap work)
     (c.as_slice.ensures.value ∙ c.in_ok-all-in-Units.ensures ∙ ap (λ (l : List ℕ). l ++ c.in-Units.more.now) c.units_at.ensures) done))
     c.give_text.ensures.work
+
+pub returns-in-Nothing-clause-filled : goal.returns-in-Nothing-clause-filled
+returns-in-Nothing-clause-filled c = kept_still c.args.world.now c.args.heap.now
+
+pub returns-in-Other-clause-filled : goal.returns-in-Other-clause-filled
+returns-in-Other-clause-filled c = kept_still c.args.world.now c.args.heap.now

@@ -11,6 +11,7 @@ use Rattle.machine_rules.specs.Texts.{part_in}
 use Rattle.machine_rules.specs.Works.{Does}
 use Rattle.machine_rules.proofs.Giving.{fault_done}
 use Rattle.machine_rules.proofs.StringWork.{part_done}
+use Rattle.machine_rules.proofs.Filling.{kept_still}
 use Rattle.machine_rules.proofs.strings.substring.Goals as goal
 
 as_passed : (units kept : List ℕ) (begin end : ℤ) (part : Option (List ℕ)) → SFits w32 begin → SFits w32 end → units ≡ kept → part ≡ part_in units (to_z w32 (of_z w32 begin)) (to_z w32 (of_z w32 end)) → part_in kept begin end ≡ part
@@ -35,3 +36,6 @@ returns-clause-work c =
     (as_passed c.units_at.result.now _ c.args.begin c.args.end (Some c.in-Some.units.now) c.ranges.begin c.ranges.end c.units_at.ensures c.in-Some.ensures)
     (subst (λ (l : List ℕ). Does k things (λ s ns w. calls.new_text l w) c.give_text.new.heap work) (c.as_slice.ensures.value ∙ c.in_ok-units-in-Some.ensures.items) done))
     c.give_text.ensures.work
+
+pub returns-in-None-clause-filled : goal.returns-in-None-clause-filled
+returns-in-None-clause-filled c = kept_still c.args.world.now c.args.heap.now
