@@ -1,3 +1,4 @@
+mod Asked
 mod Buffers
 mod Decimals
 mod Declared
@@ -7,6 +8,10 @@ mod Giving
 mod Hashes
 mod IdentityWork
 mod Library
+mod ReadFields
+mod Resumed
+mod Rules
 mod Selection
+mod Spelled
 mod Standing
 mod StringWork

@@ -1,7 +1,12 @@
+pub mod Asking
 pub mod Filling
 pub mod FillingLaws
 pub mod Finishing
 pub mod Library
+pub mod Reading
 pub mod Selecting
+pub mod Spelling
 pub mod Texts
+pub mod Waiting
+pub mod WaitingLaws
 pub mod Works

@@ -7,14 +7,21 @@
 #![tactic(auto)]
 
 mod arguments;
+mod asking;
 mod classes;
+mod describing;
 mod finishing;
 mod identity;
 mod numbers;
 mod objects;
+mod printing;
+mod reading;
+mod resuming;
 mod selecting;
+mod spelling;
 mod strings;
 mod texts;
 mod work;
 
+pub use resuming::resume;
 pub use work::Work;
