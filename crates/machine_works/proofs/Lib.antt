@@ -1,0 +1,5 @@
+pub mod Ended
+pub mod Entered
+pub mod Finished
+pub mod Kept
+pub mod Loaded

@@ -1,0 +1,67 @@
+use Rattle.std.proofs.Common.{◌≡◌, sym, ap, ◌∙◌, subst, arith}
+use Rattle.std.specs.Prelude.{ℕ, List, Bool, nat_lt, false}
+use Rattle.std.proofs.lemmas.Bool.{lt-ltb}
+use Rattle.std.proofs.lemmas.Bool.Decides.{nat_tests}
+use Rattle.class_heads.specs.PlaceLaws.{place-named}
+use Rattle.machine_values.specs.declared.names.Name.TheVariants.{ClassObject}
+use Rattle.machine_values.specs.declared.state.MachineState.{MachineState}
+use Rattle.machine_values.specs.Things.{Placed}
+use Rattle.machine_values.specs.Types.{type_name}
+use Rattle.machine_requests.specs.Replies.{IsLonger}
+use Rattle.machine_requests.proofs.NewArrays.{longer_constant}
+use Rattle.machine_invocations.specs.Initialising.{Begins}
+use Rattle.machine_invocations.specs.Keeping.{keeps_runs}
+use Rattle.machine_invocations.proofs.Begun.{on_err}
+use Rattle.machine_works.proofs.Kept.{keeps_both}
+use Rattle.machine_works.proofs.Loaded.{flat_name, flat_no_array, keeps_object, gives_array, begun_gives, began_first}
+use Rattle.machine_works.proofs.finishing.load.Goals as goal
+
+pub returns-then-class-gt0-clause-moves : goal.returns-then-class-gt0-clause-moves
+returns-then-class-gt0-clause-moves c m left t f below is runs top knows =
+    let old = c.args.state.now in
+    let type = c.args.class.now in
+    let longer = subst (λ (p : Placed). IsLonger old.heap p.1) (sym c.in_ok-at.ensures.ok) (longer_constant old.heap (ClassObject type)) in
+    gives_array c.args.world.now old type c.class_object.new.self c.in_ok-at.at c.requires.class c.in_ok-at.ensures.ok c.take_back.new.state c.take_back.result m left t f below c.requires.runnable longer is runs top
+    (lt-ltb 0 type.dims c.if-class-gt0.true) c.take_back.ensures.taken
+
+pub returns-in_err-begin-clause-err : goal.returns-in_err-begin-clause-err
+returns-in_err-begin-clause-err c =
+    let k = c.args.world.now in
+    let old = c.args.state.now in
+    let type = c.args.class.now in
+    let longer = subst (λ (p : Placed). IsLonger old.heap p.1) (sym c.in_ok-at.ensures.ok) (longer_constant old.heap (ClassObject type)) in
+    on_err c.from_residual-in_err-begin.result
+    (keeps_both k old (record old { heap = c.class_object.new.self }) c.begin.new.state (keeps_object k old type c.class_object.new.self c.in_ok-at.at c.requires.class c.in_ok-at.ensures.ok c.requires.runnable longer) c.in_err-begin.ensures.err)
+
+pub returns-then-branch-clause-moves : goal.returns-then-branch-clause-moves
+returns-then-branch-clause-moves c m left t f below is runs top knows =
+    let k = c.args.world.now in
+    let old = c.args.state.now in
+    let type = c.args.class.now in
+    let mid : MachineState = record old { heap = c.class_object.new.self } in
+    let longer = subst (λ (p : Placed). IsLonger old.heap p.1) (sym c.in_ok-at.ensures.ok) (longer_constant old.heap (ClassObject type)) in
+    let gt = c.if-class-gt0.false in
+    let flat : nat_lt 0 type.dims ≡ false = grind (arith, nat_tests) in
+    let name = flat_name type c.in-Class.name c.in-Class.is flat in
+    let place = place-named k.heads c.in-Class.name c.in-Some.place.0 (sym c.in-Some.ensures.place) in
+    let kept = keeps_runs k old mid (keeps_object k old type c.class_object.new.self c.in_ok-at.at c.requires.class c.in_ok-at.ensures.ok c.requires.runnable longer) m left t is runs in
+    let begins = c.in_ok-begin.ensures.begun m left t is kept in
+    began_first k old type c.class_object.new.self c.in_ok-at.at c.requires.class c.in_ok-at.ensures.ok c.begin.new.state m left t f below (flat_no_array type c.in-Class.name c.in-Class.is flat c.requires.class)
+    (subst (λ (b : Bool). Begins m c.begin.new.state left t (type_name type) b) c.if-branch.true (subst (λ (n : List ℕ). Begins m c.begin.new.state left t n c.in_ok-begin.field-0) (place ∙ sym name) begins)) top
+
+pub returns-clause-moves : goal.returns-clause-moves
+returns-clause-moves c m left t f below is runs top knows =
+    let k = c.args.world.now in
+    let old = c.args.state.now in
+    let type = c.args.class.now in
+    let mid : MachineState = record old { heap = c.class_object.new.self } in
+    let longer = subst (λ (p : Placed). IsLonger old.heap p.1) (sym c.in_ok-at.ensures.ok) (longer_constant old.heap (ClassObject type)) in
+    let gt = c.if-class-gt0.false in
+    let flat : nat_lt 0 type.dims ≡ false = grind (arith, nat_tests) in
+    let name = flat_name type c.in-Class.name c.in-Class.is flat in
+    let place = place-named k.heads c.in-Class.name c.in-Some.place.0 (sym c.in-Some.ensures.place) in
+    let kept = keeps_runs k old mid (keeps_object k old type c.class_object.new.self c.in_ok-at.at c.requires.class c.in_ok-at.ensures.ok c.requires.runnable longer) m left t is runs in
+    let begins = c.in_ok-begin.ensures.begun m left t is kept in
+    begun_gives k old type c.class_object.new.self c.in_ok-at.at c.requires.class c.in_ok-at.ensures.ok c.take_back-2.new.state c.take_back-2.result m left t f below (flat_no_array type c.in-Class.name c.in-Class.is flat c.requires.class)
+    c.begin.new.state (ap (λ (s : MachineState). s.heap) c.in_ok-begin.ensures.rest) is runs.shares
+    (subst (λ (b : Bool). Begins m c.begin.new.state left t (type_name type) b) c.if-branch.false (subst (λ (n : List ℕ). Begins m c.begin.new.state left t n c.in_ok-begin.field-0) (place ∙ sym name) begins)) top c.take_back-2.ensures.taken
