@@ -1,9 +1,10 @@
 -- What an instruction does to what its frame holds (JVMS 6). It knows no place, no code, no class and no heap. Here a run
 -- is Broken by a pop from no operand, a push past the room, a local that is unset, half a wide value or past the last, a
--- value of the wrong kind, and a wide value that is split.
+-- value of the wrong kind, a wide value that is split, and an array of no dimensions or of more than its type has.
 use Rattle.std.specs.Prelude.{ℕ, zero, suc, ◌+◌, Bool, true, false, not, if◌then◌else◌, List, [], ◌∷◌, Option, Some, None, ℤ, pos, nat_le, length, reverse, slice_get, slice_set}
 use Rattle.std.specs.Int.{w8, w16, w32, w64, int_wrapping_neg, int_wrapping_add}
 use Rattle.class_file.specs.Pool.{Reference}
+use Rattle.class_file.specs.Code.{has_dimensions}
 use Rattle.class_machine.specs.declared.kinds.Kind.{Kind}
 use Rattle.class_machine.specs.declared.kinds.Element.{Element}
 use Rattle.class_machine.specs.declared.kinds.Binary.{Binary}
@@ -409,6 +410,6 @@ module _ {P : Type 0} where
   effect s (Invoke mode r) ops ls = invoke mode r ops ls
   effect s (New class) ops ls = announce s.room class ops ls
   effect s (NewReferenceArray class) ops ls = new_array (Some class) (array_of class) 1 ops ls
-  effect s (NewArrays type dims) ops ls = new_array (Some type) type dims ops ls
+  effect s (NewArrays type dims) ops ls = if has_dimensions dims type then new_array (Some type) type dims ops ls else Broken
   effect s (CheckCast class) ops ls = ask_of (Cast class) ops ls
   effect s (InstanceOf class) ops ls = ask_of (IsInstance class) ops ls

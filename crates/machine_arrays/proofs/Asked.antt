@@ -4,6 +4,7 @@ use Rattle.std.specs.List.{list_any}
 use Rattle.std.proofs.Common.{sym, ◌∙◌, ap, subst, inl, inr}
 use Rattle.std.proofs.lemmas.Bool.{le-leb}
 use Rattle.aj_names.specs.declared.types.FieldType.{FieldType}
+use Rattle.class_file.specs.Code.{has_dimensions}
 use Rattle.class_heads.specs.declared.types.ClassHead.{ClassHead}
 use Rattle.class_world.specs.Tables.{Known}
 use Rattle.class_machine.specs.declared.kinds.Fault.{Fault}
@@ -48,7 +49,7 @@ use Rattle.machine_steps.specs.Runs.{IsFormed, Stepped}
 use Rattle.machine_invocations.specs.Returning.{takes_back}
 use Rattle.machine_arrays.specs.Made.{IsMade, Makes, KeepsFilled}
 use Rattle.machine_arrays.specs.Named.{knows}
-use Rattle.machine_arrays.specs.Stepping.{HasRoom, LacksSizes, TakesSizes, asks, gives}
+use Rattle.machine_arrays.specs.Stepping.{HasRoom, LacksSizes, TakesSizes, asks, gives, makes_arrays}
 use Rattle.machine_arrays.proofs.Fieldless.{bare_arrays}
 use Rattle.machine_arrays.proofs.Taken.{last_or_none, taken_turned}
 use Rattle.machine_arrays.proofs.Worlds.{same_answers}
@@ -156,17 +157,17 @@ taken k old new step array roomy moves = by (last_or_none old.frames.items) wher
 
 -- ---- the whole instruction
 
-lacking_top : (k : Known) (old new : MachineState) (named : List ℕ) (dims : ℕ) (rest : List Frame) (g : Frame) → old.frames.items ≡ rest ++ g ∷ [] → LacksSizes dims old → Moves k old new (Ended Broken) (executes (NewArrays named dims))
+lacking_top : (k : Known) (old new : MachineState) (named : List ℕ) (dims : ℕ) (rest : List Frame) (g : Frame) → old.frames.items ≡ rest ++ g ∷ [] → LacksSizes dims old → Moves k old new (Ended Broken) (makes_arrays true named dims)
 lacking_top k old new named dims rest g top lacks =
-    moves_at k old new (Ended Broken) (executes (NewArrays named dims)) rest g top (λ m left t is runs.
+    moves_at k old new (Ended Broken) (makes_arrays true named dims) rest g top (λ m left t is runs.
     let f = seen_by m old.heap.names g in
     subst (λ (e : Effect Place). Stepped m new left (Ended Broken) (moved (class_code m.files) m.setting.classes t.due (resolved (class_code m.files) m.setting.classes f t.world e) t.world f (waiting m old.heap.names rest)))
     (sym (lacks rest g top (naming_of m old) (Some named) named)) refl)
 
-pub lacking : (k : Known) (old new : MachineState) (named : List ℕ) (dims : ℕ) → LacksSizes dims old → Moves k old new (Ended Broken) (executes (NewArrays named dims))
+pub lacking : (k : Known) (old new : MachineState) (named : List ℕ) (dims : ℕ) → LacksSizes dims old → Moves k old new (Ended Broken) (makes_arrays true named dims)
 lacking k old new named dims lacks = by (last_or_none old.frames.items) where
-  by : (old.frames.items ≡ []) ⊎ ((rest : List Frame) × (g : Frame) × (old.frames.items ≡ rest ++ g ∷ [])) → Moves k old new (Ended Broken) (executes (NewArrays named dims))
-  by (inl none) = no_frame k old new (Ended Broken) (executes (NewArrays named dims)) none
+  by : (old.frames.items ≡ []) ⊎ ((rest : List Frame) × (g : Frame) × (old.frames.items ≡ rest ++ g ∷ [])) → Moves k old new (Ended Broken) (makes_arrays true named dims)
+  by (inl none) = no_frame k old new (Ended Broken) (makes_arrays true named dims) none
   by (inr (rest, g, top)) = lacking_top k old new named dims rest g top lacks
 
 -- what the frame held doesn't count
@@ -194,9 +195,9 @@ same_asked m due w f c below named sizes = by (m.setting.classes.knows named) wh
   by true = answered (list_any is_negative sizes) (make_arrays named sizes w)
   by false = refl
 
-pub executed : (k : Known) (old mid new : MachineState) (step : Step) (named : List ℕ) (dims : ℕ) (sizes : List ℤ) → TakesSizes dims old sizes mid → Moves k mid new step (asks named sizes) → Moves k old new step (executes (NewArrays named dims))
+pub executed : (k : Known) (old mid new : MachineState) (step : Step) (named : List ℕ) (dims : ℕ) (sizes : List ℤ) → TakesSizes dims old sizes mid → Moves k mid new step (asks named sizes) → Moves k old new step (makes_arrays true named dims)
 executed k old mid new step named dims sizes h moves =
-    moves_turned k old mid new step (asks named sizes) (executes (NewArrays named dims)) (take h.at old.frames.items) h.before h.after (taken_turned dims old sizes mid h) (h.within (length old.heap.names)) moves (λ m left t is runs.
+    moves_turned k old mid new step (asks named sizes) (makes_arrays true named dims) (take h.at old.frames.items) h.before h.after (taken_turned dims old sizes mid h) (h.within (length old.heap.names)) moves (λ m left t is runs.
     let below = waiting m old.heap.names (take h.at old.frames.items) in
     let f = seen_by m old.heap.names h.before in
     let g = seen_by m old.heap.names h.after in
@@ -210,6 +211,15 @@ executed k old mid new step named dims sizes h moves =
           ap (seen_by m names) rest
           ∙ ap (λ (r : ℕ). record (seen_by m names f) { content = (seen_by m names h).content; room = r }) room
           ∙ ap (λ (c : Content Place). record (seen_by m names f) { content = c }) (sym (ap (λ (x : Frame). (seen_by m names x).content) rest))
+
+-- the array type has so many dimensions
+pub fitting : (k : Known) (old new : MachineState) (step : Step) (named : List ℕ) (dims : ℕ) → has_dimensions dims named ≡ true → Moves k old new step (makes_arrays true named dims) → Moves k old new step (executes (NewArrays named dims))
+fitting k old new step named dims fit moves = subst (λ (b : Bool). Moves k old new step (makes_arrays b named dims)) (sym fit) moves
+
+-- it hasn't
+pub unfit : (k : Known) (old new : MachineState) (named : List ℕ) (dims : ℕ) → has_dimensions dims named ≡ false → Moves k old new (Ended Broken) (executes (NewArrays named dims))
+unfit k old new named dims e m left t f below is runs top =
+    subst (λ (b : Bool). Stepped m new left (Ended Broken) (moved (class_code m.files) m.setting.classes t.due (makes_arrays b named dims m t f) t.world f below)) (sym e) refl
 
 -- ---- formed
 

@@ -1,9 +1,9 @@
 -- The turn of an instruction that makes arrays of arrays, once the sizes were taken.
-use Rattle.std.specs.Prelude.{◌≡◌, ℕ, ◌+◌, ◌≤◌, List, [], ◌∷◌, ◌++◌, map, reverse, length, slice_get, ℤ, Some}
+use Rattle.std.specs.Prelude.{◌≡◌, ℕ, ◌+◌, ◌≤◌, Bool, if◌then◌else◌, List, [], ◌∷◌, ◌++◌, map, reverse, length, slice_get, ℤ, Some}
 use Rattle.std.specs.Vec.{with_item}
 use Rattle.class_machine.specs.Answers as answers
 use Rattle.class_machine.specs.ClassFiles.{class_code}
-use Rattle.class_machine.specs.Effect.{Ask, MakeArray}
+use Rattle.class_machine.specs.Effect.{Ask, Broken, MakeArray, new_array}
 use Rattle.class_machine.specs.Turn.{resolved, replied}
 use Rattle.class_machine.specs.Values as machine
 use Rattle.machine_frames.specs.Sizes.{Sizes, SizesBreak}
@@ -40,6 +40,10 @@ pub record TakesSizes (dims : ℕ) (old : MachineState) (xs : List ℤ) (new : M
   pub within : (count : ℕ) → IsFrameWithin count before → IsFrameWithin count after
 
 -- ---- turns
+
+-- the sizes are taken, where there are to be as many of them as the array type may have
+abbrev pub makes_arrays : Bool → List ℕ → ℕ → Turning
+makes_arrays fit named dims m t f = resolved (class_code m.files) m.setting.classes f t.world (if fit then new_array (Some named) named dims f.content.operands f.content.locals else Broken)
 
 -- arrays of the array type are asked for
 abbrev pub asks : List ℕ → List ℤ → Turning

@@ -2,7 +2,6 @@
 
 ghost use Rattle.std.specs.Prelude.{◌≡◌, ◌<◌, ◌≤◌, ℕ, true, length, IfOk, MatchOption, OnErr};
 ghost use Rattle.std.specs.List.{list_any};
-ghost use Rattle.class_file.specs.Code.{has_dimensions};
 ghost use Rattle.class_file.specs.Text.{dimensions};
 ghost use Rattle.class_heads.specs.Hierarchy.{is_array};
 ghost use Rattle.class_world.specs.Tables.{Known};
@@ -17,7 +16,7 @@ ghost use Rattle.machine_steps.specs.Runs.{IsFormed};
 ghost use Rattle.machine_arrays.specs.Stepping.{HasRoom, TakesSizes, LacksSizes, asks, gives};
 
 use crate::making::make_arrays;
-use crate::named::array_named;
+use crate::named::{array_named, has_dimensions};
 use aj_names::Items;
 use class_machine::kinds::Fault;
 use class_world::World;
@@ -105,7 +104,7 @@ fn new_arrays(
 }
 
 /// Makes an array of the array type that a Class entry names, and in it arrays of so many dimensions in
-/// all (JVMS 6, `multianewarray`).
+/// all (JVMS 6, `multianewarray`). Where the type doesn't have so many, the run is Broken.
 ///
 /// # Errors
 /// Where there is no memory; the state is as it was then.
@@ -117,11 +116,13 @@ pub fn step_new_arrays(
 ) -> Result<Step, AllocError>
     requires runnable { IsRunnable world.now }
     requires formed { IsFormed world.now state.old }
-    requires dims { has_dimensions dims named.now ≡ true }
     ensures formed { IsFormed world.now state.new }
     ensures moves { IfOk result (λ step. Moves world.now state.old state.new step (executes (NewArrays named.now dims))) }
     ensures err { OnErr result (state.new ≡ state.old) }
 {
+    if !has_dimensions(named, dims) {
+        return Ok(Step::Ended(Ending::Broken));
+    }
     if state.frames.is_empty() {
         return Ok(Step::Ended(Ending::Broken));
     }

@@ -4,6 +4,7 @@ use Rattle.std.specs.Prelude.{max, ℤ, pos, ◌==◌, nat_le, slice_get, slice_
 use Rattle.std.proofs.lemmas.Bool.Decides.{nat_tests}
 use Rattle.std.specs.Int.{w8, w16, w32, w64, int_wrapping_add, int_wrapping_neg}
 use Rattle.class_file.specs.Pool.{Reference}
+use Rattle.class_file.specs.Code.{has_dimensions}
 use Rattle.class_machine.specs.declared.kinds.Kind.{Kind}
 use Rattle.class_machine.specs.declared.kinds.Access.{Access}
 use Rattle.class_machine.specs.declared.kinds.Mode.{Mode}
@@ -440,6 +441,6 @@ module _ {P Q : Type 0} (f : P → Q) (extra : List (Local Q)) where
   effect_kept bare s more (New class) ops ls =
       token_kept s.room more class (fresh ops ls) (fresh (rs ops) (rl ls)) ops ls (let a = highest-rs ops in let b = highest-rl bare ls in cc)
   effect_kept bare s more (NewReferenceArray class) ops ls = new_array_kept _ _ 1 ops ls
-  effect_kept bare s more (NewArrays type dims) ops ls = new_array_kept _ _ dims ops ls
+  effect_kept bare s more (NewArrays type dims) ops ls = same_kept (has_dimensions dims type) _ _ (new_array_kept _ _ dims ops ls)
   effect_kept bare s more (CheckCast class) ops ls = ask_kept (Effect.Cast class) ops ls
   effect_kept bare s more (InstanceOf class) ops ls = ask_kept (Effect.IsInstance class) ops ls
