@@ -21,14 +21,14 @@ abbrev pub AppendsToBare : Setting → List Name → Destination → Type 0
 AppendsToBare s names (Appends buffer) = IsBare s names buffer
 AppendsToBare s names to = Unit {0}
 
--- the object's content is another then
+-- where objects of the object's class have no fields, each object that had a value for each field of its class has them still
 abbrev pub FillsAt : Ref → Things → Things → Type 0
 FillsAt at before after = (s : Setting) → IsBare s before.names at → AreFilled before s → AreFilled after s
 
--- texts were made
+-- in each setting of the world
 abbrev pub FillsStill : Known → Things → Things → Type 0
 FillsStill k before after = (s : Setting) → IsSettingOf k s → StaysFilled before after s
 
--- or a text went there
+-- the same, where what a text is appended to has no fields
 abbrev pub FillsTo : Known → Destination → Things → Things → Type 0
 FillsTo k to before after = (s : Setting) → IsSettingOf k s → AppendsToBare s before.names to → StaysFilled before after s
