@@ -1,5 +1,5 @@
 -- The state after a trigger.
-use Rattle.std.specs.Prelude.{◌≡◌, ℕ, suc, ◌<◌, ◌==◌, Bool, not, List, [], ◌∷◌, ◌++◌, map, reverse, length, Result, Ok, Err, OnErr, refl}
+use Rattle.std.specs.Prelude.{◌≡◌, ℕ, suc, ◌<◌, ◌==◌, Bool, true, false, not, List, [], ◌∷◌, ◌++◌, map, reverse, length, Result, Ok, Err, OnErr, refl}
 use Rattle.std.proofs.Common.{sym, ap, ◌∙◌, subst, arith}
 use Rattle.std.proofs.lemmas.Bool.{ne_eqb}
 use Rattle.std.specs.List.{AllByRecursion}
@@ -57,6 +57,10 @@ all_append P (x ∷ xs) ys h g = (h.0, all_append P xs ys h.1 g)
 frame_there : (fs : List (turns.Frame Place)) → has_frame fs ≡ not (length fs == 0)
 frame_there [] = refl
 frame_there (f ∷ fs) = sym (ap not (ne_eqb (suc (length fs)) 0 (λ e. let none : suc (length fs) ≡ 0 = e in absurd (omega arith))))
+
+pub none_fresh : (fresh : List Frame) (some : Bool) → some ≡ not (length fresh == 0) → some ≡ false → fresh ≡ []
+none_fresh [] some e none = refl
+none_fresh (f ∷ fresh) some e none = absurd (let bad : true ≡ false = ap not (sym (ne_eqb (suc (length fresh)) 0 (λ e. let zero : suc (length fresh) ≡ 0 = e in absurd (omega arith)))) ∙ sym e ∙ none in cc)
 
 module _ (k : Known) (old : MachineState) (frames : MachineState) (fresh : List Frame) (begun : List Bool) (class : ℕ)
     (within : class < length k.heads) (pends : ArePending k old.begun class fresh) (added : frames.frames.items ≡ old.frames.items ++ fresh)

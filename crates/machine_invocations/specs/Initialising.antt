@@ -90,3 +90,10 @@ pub record Begins (m : Machine) (new : MachineState) (answers : List Answer) (t 
   pub runs : Runs m new answers (begun_state m t class)
   -- whether any was pending
   pub pushed : has_frame (pending (class_code m.files) m.setting.classes t.world class) ≡ some
+
+-- beside the marks only frames were added, none where none was pending
+pub record AddsFrames (old new : MachineState) (some : Bool) : Type 0 where
+  pub own : List Frame
+  pub frames : new.frames.items ≡ old.frames.items ++ own
+  pub none : some ≡ false → own ≡ []
+  pub same : new ≡ record old { frames = new.frames; begun = new.begun }

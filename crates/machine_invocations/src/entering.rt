@@ -28,8 +28,8 @@ use machine_values::{
 };
 use std::alloc::{AllocError, Global};
 
-// Whether so many locals take the arguments.
-fn fits(given: &[Value], locals: u16) -> bool
+/// Whether so many locals take the arguments.
+pub fn fits(given: &[Value], locals: u16) -> bool
     ensures { result ≡ nat_le (weight given.now) locals }
 {
     let mut left = locals as usize;

@@ -15,7 +15,7 @@ ghost use Rattle.machine_steps.specs.Programs.{IsRunnable, Machine, IsMachine};
 ghost use Rattle.machine_steps.specs.Runs.{IsFormed, Runs};
 ghost use Rattle.machine_invocations.specs.Keeping.{Keeps};
 ghost use Rattle.machine_invocations.specs.Selections.{member_named};
-ghost use Rattle.machine_invocations.specs.Initialising.{IsInitialiser, HasInitialiser, AreOwn, AddsPending, ArePending, Begins, HasBegun, names_upward};
+ghost use Rattle.machine_invocations.specs.Initialising.{IsInitialiser, HasInitialiser, AreOwn, AddsPending, AddsFrames, ArePending, Begins, HasBegun, names_upward};
 
 use crate::methods::is_static;
 use crate::selection::superclass_of;
@@ -188,6 +188,7 @@ pub fn begin(state: &mut MachineState, world: &World, class: ClassId) -> Result<
     ensures begun { IfOk result (λ some. (m : Machine) (answers : List Answer) (t : State Place) → IsMachine world.now m → Runs m state.old answers t → Begins m state.new answers t (name_at world.now.heads class.0) some) }
     ensures rest { state.new ≡ record state.old { frames = state.new.frames; begun = state.new.begun } }
     ensures formed { IsFormed world.now state.new }
+    ensures added { IfOk result (λ some. AddsFrames state.old state.new some) }
     ensures err { OnErr result (Keeps world.now state.old state.new) }
 {
     let alloc = *state.frames.allocator();

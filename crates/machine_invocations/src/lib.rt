@@ -14,7 +14,7 @@ mod selection;
 mod showing;
 mod texts;
 
-pub use entering::enter;
+pub use entering::{enter, fits};
 pub use initialisers::begin;
 pub use leaving::drop_frame;
 pub use methods::{

@@ -2,7 +2,7 @@ use Rattle.std.proofs.Common.{◌≡◌, refl, ap, ◌∙◌, subst, length, ari
 use Rattle.std.specs.Prelude.{List, Bool, not, ◌==◌, vec_len}
 use Rattle.machine_values.specs.declared.state.MachineState.{MachineState}
 use Rattle.machine_invocations.specs.Initialising.{ArePending}
-use Rattle.machine_invocations.proofs.Begun.{keeps_same, formed_same, on_err, begins, begins_formed}
+use Rattle.machine_invocations.proofs.Begun.{keeps_same, formed_same, on_err, begins, begins_formed, none_fresh}
 use Rattle.machine_invocations.proofs.initialisers.begin.Goals as goal
 
 pub returns-in_err-fresh-clause-err : goal.returns-in_err-fresh-clause-err
@@ -36,3 +36,13 @@ returns-clause-formed c =
     let fresh = c.in_ok-fresh.fresh in
     let pends = subst (λ (begun : List Bool). ArePending k begun c.args.class.0 fresh.items) c.as_slice.ensures c.in_ok-fresh.ensures in
     begins_formed k old new fresh.items c.mark.new.begun c.args.class.0 c.requires.class pends c.in_ok-put_frames.ensures.ok c.mark.ensures.marked (c.mark.ensures.len ∙ c.requires.formed.begun) c.requires.formed
+
+pub returns-clause-added : goal.returns-clause-added
+returns-clause-added c =
+    let fresh = c.in_ok-fresh.fresh in
+    record {
+      own = fresh.items;
+      frames = c.in_ok-put_frames.ensures.ok;
+      none = none_fresh fresh.items (not c.is_empty-some.result) (ap not (c.is_empty-some.ensures ∙ ap (λ n. n == 0) (let n : vec_len fresh ≡ length fresh.items = omega (arith, fresh.ok.0) in n)));
+      same = refl;
+    }
