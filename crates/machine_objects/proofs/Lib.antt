@@ -1,0 +1,15 @@
+pub mod Vectors
+pub mod Taken
+pub mod Back
+pub mod Followed
+pub mod Asked
+pub mod Unchanged
+pub mod Found
+pub mod Places
+pub mod FieldMoves
+pub mod TypeMoves
+pub mod Switched
+pub mod Made
+pub mod Bare
+pub mod TypeNames
+pub mod ConstantMoves

@@ -1,0 +1,32 @@
+use Rattle.std.proofs.Common.{◌≡◌, Bool, true, false, sym, ◌∙◌, ap, subst}
+use Rattle.std.specs.Prelude.{length, Some}
+use Rattle.std.proofs.lemmas.Bool.{false≢true}
+use Rattle.class_world.specs.Tables.{Known}
+use Rattle.machine_requests.specs.declared.reply.Reply.{Reply}
+use Rattle.machine_requests.specs.declared.reply.Reply.TheVariants.{Done}
+use Rattle.machine_requests.specs.Objects.{IsBelow}
+use Rattle.machine_requests.specs.Telling.{AreDistinct, AreFit}
+use Rattle.machine_fields.specs.Settings.{world_setting}
+use Rattle.machine_objects.specs.Fields.{Writes}
+use Rattle.machine_objects.proofs.Places.{writes_there, writes_else}
+use Rattle.machine_objects.proofs.reading.write.Goals as goal
+
+pub returns-in-Done-clause-written : goal.returns-in-Done-clause-written
+returns-in-Done-clause-written c =
+    let k = c.args.world.now in
+    let before = c.args.heap.now in
+    writes_there k before c.put_field.new.heap c.args.found.class.0 c.args.found.position c.args.descriptor.now c.args.at c.args.value c.class_name.result.now c.class_name.ensures
+    (λ d fit. subst (λ (b : Bool). IsBelow before (Some c.args.at) c.class_name.result.now b (world_setting k)) c.if-not-is_object_below.false (c.is_object_below.ensures d fit))
+    c.in-Some.index c.in-Some.ensures c.element_of-element.result c.element_of-element.ensures Done c.in-Done.ensures.answer c.put_field.ensures.filled
+
+pub returns-in_default-put_field : goal.returns-in_default-put_field
+returns-in_default-put_field c =
+    let k = c.args.world.now in
+    let before = c.args.heap.now in
+    record {
+      written = writes_else k before c.put_field.new.heap c.args.found.class.0 c.args.found.position c.args.descriptor.now c.args.at c.args.value c.class_name.result.now c.class_name.ensures
+          (λ d fit. subst (λ (b : Bool). IsBelow before (Some c.args.at) c.class_name.result.now b (world_setting k)) c.if-not-is_object_below.false (c.is_object_below.ensures d fit))
+          c.in-Some.index c.in-Some.ensures c.element_of-element.result c.element_of-element.ensures c.put_field.result c.put_field.ensures.answer c.put_field.ensures.filled c.in_default-put_field.not-Done;
+      names = c.put_field.ensures.names;
+      none = λ h. absurd (false≢true (sym h));
+    }

@@ -1,0 +1,6 @@
+pub mod Taking
+pub mod Following
+pub mod Fields
+pub mod Types
+pub mod Switching
+pub mod Making
