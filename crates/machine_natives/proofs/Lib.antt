@@ -1,0 +1,10 @@
+pub mod Library
+pub mod Strings
+pub mod Making
+pub mod Messages
+pub mod Fits
+pub mod Onward
+pub mod Shown
+pub mod Called
+pub mod Entries
+pub mod Heads

@@ -1,0 +1,22 @@
+//! Native methods (The Java Virtual Machine Specification, second edition, 2.10.3): what the script of a
+//! run answers to a call of one, what becomes of the running frame then, and the step of a state
+//! without frames, in which a native entry is called. Each contract says that the state goes on
+//! standing for one of the class machine's definition.
+#![tactic(auto)]
+
+mod calling;
+mod classes;
+mod closing;
+mod descriptors;
+mod fitting;
+mod responding;
+mod response;
+mod throwables;
+mod throwing;
+
+pub use calling::call_native;
+pub use closing::close;
+pub use responding::respond;
+pub use response::Response;
+pub use throwables::has_throwables;
+pub use throwing::make_string;
