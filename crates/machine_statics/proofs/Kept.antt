@@ -1,0 +1,29 @@
+-- What a refused call leaves of a state, one call after the other.
+use Rattle.std.specs.Prelude.{◌≡◌, [], ◌++◌, refl}
+use Rattle.std.proofs.Common.{sym, ap, ◌∙◌, subst}
+use Rattle.std.proofs.lemmas.List.{append-nil, append_assoc}
+use Rattle.class_world.specs.Tables.{Known}
+use Rattle.machine_values.specs.declared.state.MachineState.{MachineState}
+use Rattle.machine_requests.specs.Replies.{IsLonger}
+use Rattle.machine_values.specs.Things.{Things}
+use Rattle.machine_invocations.specs.Keeping.{Keeps}
+
+pub longer_both : (a b c : Things) → IsLonger a b → IsLonger b c → IsLonger a c
+longer_both a b c h g = (h.0 ++ g.0, g.1 ∙ ap (λ ns. ns ++ g.0) h.1 ∙ append_assoc a.names h.0 g.0)
+
+pub keeps_itself : (k : Known) (old : MachineState) → Keeps k old old
+keeps_itself k old = record { frames = refl; due = refl; statics = refl; begun = refl; names = ([], sym (append-nil old.heap.names)); shares = λ m w is shares. shares; filled = λ m w is shares filled. filled }
+
+pub keeps_equal : (k : Known) (old new : MachineState) → new ≡ old → Keeps k old new
+keeps_equal k old new e = subst (Keeps k old) (sym e) (keeps_itself k old)
+
+pub keeps_both : (k : Known) (a b c : MachineState) → Keeps k a b → Keeps k b c → Keeps k a c
+keeps_both k a b c h g = record {
+  frames = g.frames ∙ h.frames;
+  due = g.due ∙ h.due;
+  statics = g.statics ∙ h.statics;
+  begun = g.begun ∙ h.begun;
+  names = longer_both a.heap b.heap c.heap h.names g.names;
+  shares = λ m w is shares. g.shares m w is (h.shares m w is shares);
+  filled = λ m w is shares filled. g.filled m w is (h.shares m w is shares) (h.filled m w is shares filled);
+}

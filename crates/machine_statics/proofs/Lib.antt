@@ -1,0 +1,12 @@
+pub mod Triggered
+pub mod Linked
+pub mod Kept
+pub mod Bare
+pub mod Named
+pub mod Initials
+pub mod Tops
+pub mod Classes
+pub mod Reading
+pub mod Storing
+pub mod Returned
+pub mod OnTop
