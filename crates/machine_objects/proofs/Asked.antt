@@ -1,5 +1,5 @@
 -- What an instruction that asks makes of its frame.
-use Rattle.std.specs.Prelude.{◌≡◌, ℕ, List, ◌∷◌, ◌++◌, [], Some, refl}
+use Rattle.std.specs.Prelude.{◌≡◌, List, Some, refl}
 use Rattle.std.proofs.Common.{sym, ap, ◌∙◌, subst}
 use Rattle.class_world.specs.Tables.{Known}
 use Rattle.class_machine.specs.declared.kinds.Fault.{Fault}
@@ -36,7 +36,7 @@ use Rattle.machine_steps.specs.Moves.{Moves, MovesWithLocals, faults}
 use Rattle.machine_steps.specs.Programs.{Machine, IsMachine}
 use Rattle.machine_steps.specs.Running.{seen_by, waiting, frames_are, moves_at}
 use Rattle.machine_steps.specs.Runs.{Runs, Stepped}
-use Rattle.machine_objects.specs.Taking.{RoomForm, Breaks, IsTakenFrom, Takes}
+use Rattle.machine_objects.specs.Taking.{RoomForm, Breaks, IsTakenFrom}
 use Rattle.machine_objects.specs.Following.{KeepsAnswers, front_of, Follows}
 use Rattle.machine_objects.proofs.Followed.{split}
 

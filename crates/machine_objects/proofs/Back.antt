@@ -1,6 +1,6 @@
 -- A state as it was, once what was taken is put back.
-use Rattle.std.specs.Prelude.{◌≡◌, List, Result, Ok, Err, IfOk, OnErr, refl}
-use Rattle.std.proofs.Common.{sym, ap, ◌∙◌, subst}
+use Rattle.std.specs.Prelude.{◌≡◌, List, Result, Ok, Err, IfOk, OnErr}
+use Rattle.std.proofs.Common.{ap, ◌∙◌}
 use Rattle.machine_frames.specs.Naming.{Naming}
 use Rattle.class_machine.specs.Effect as definition
 use Rattle.machine_values.specs.declared.state.MachineState.{MachineState}

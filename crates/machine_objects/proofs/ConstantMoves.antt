@@ -1,13 +1,12 @@
 -- Constants and new arrays, as the machine gives them.
-use Rattle.std.specs.Prelude.{◌≡◌, ℕ, zero, suc, ◌+◌, ◌-◌, ◌<◌, ◌≤◌, ◌||◌, Bool, true, false, if◌then◌else◌, nat_le, nat_lt, is_some, List, [], ◌∷◌, ◌++◌, length, Option, Some, None, ℤ, pos, negsuc, refl}
+use Rattle.std.specs.Prelude.{◌≡◌, ℕ, zero, suc, ◌+◌, ◌<◌, ◌≤◌, ◌||◌, Bool, true, false, if◌then◌else◌, List, [], ◌∷◌, ◌++◌, length, Option, Some, None, ℤ, refl}
 use Rattle.std.proofs.Common.{sym, ap, ◌∙◌, subst, arith}
 use Rattle.std.proofs.lemmas.Bool.{false≢true, le-leb}
-use Rattle.std.specs.List.{list_any}
 use Rattle.class_world.specs.Tables.{Known}
 use Rattle.class_machine.specs.declared.kinds.Fault.{Fault}
 use Rattle.class_machine.specs.Answers as answers
 use Rattle.class_machine.specs.Answers.{answer, is_negative, in_turn, make_arrays, with_elements, new_arrays}
-use Rattle.class_machine.specs.Classes.{Classes, dotted}
+use Rattle.class_machine.specs.Classes.{dotted}
 use Rattle.class_machine.specs.ClassFiles.{Place, class_code}
 use Rattle.class_machine.specs.Descriptors.{array_of, elements_of}
 use Rattle.class_machine.specs.Effect as definition
@@ -24,32 +23,26 @@ use Rattle.class_machine.specs.World as worlds
 use Rattle.machine_frames.specs.Effects.{operands_of, locals_of}
 use Rattle.machine_frames.specs.Named.{content_of}
 use Rattle.machine_frames.specs.Naming.{Naming}
-use Rattle.machine_frames.specs.Undoing.{IsTaken}
-use Rattle.machine_values.specs.declared.frames.Frame.{Frame}
-use Rattle.machine_values.specs.declared.names.Name.{Name}
 use Rattle.machine_values.specs.declared.observed.Ending.TheVariants.{Broken, Unresolved}
-use Rattle.machine_values.specs.declared.script.Answer.{Answer}
 use Rattle.machine_values.specs.declared.state.MachineState.{MachineState}
 use Rattle.machine_values.specs.declared.values.Ref.{Ref}
-use Rattle.machine_values.specs.declared.values.Value.{Value}
 use Rattle.machine_values.specs.declared.values.Value.TheVariants.{Int, Null, Reference}
-use Rattle.machine_values.specs.Stacks.{width, weight}
-use Rattle.machine_values.specs.Standing.{held, name_of}
+use Rattle.machine_values.specs.Stacks.{weight}
+use Rattle.machine_values.specs.Standing.{held}
 use Rattle.machine_values.specs.States.{is_known_object}
 use Rattle.machine_values.specs.Things.{Things}
 use Rattle.machine_requests.specs.declared.reply.Reply.{Reply}
-use Rattle.machine_requests.specs.Objects.{AreFilled, StaysFilled, Finds}
+use Rattle.machine_requests.specs.Objects.{StaysFilled, Finds}
 use Rattle.machine_requests.specs.Replies.{Replies, IsAnswer, IsLonger}
-use Rattle.machine_requests.specs.Shares.{Setting, Others, Shares, others_of}
+use Rattle.machine_requests.specs.Shares.{Setting, Others, others_of}
 use Rattle.machine_requests.specs.Telling.{AreDistinct}
 use Rattle.machine_steps.specs.declared.step.Step.{Step}
 use Rattle.machine_steps.specs.declared.step.Step.TheVariants.{Ended}
 use Rattle.machine_steps.specs.Executing.{executes}
-use Rattle.machine_steps.specs.Giving.{naming_of}
 use Rattle.machine_steps.specs.Moves.{Moves, MovesWithLocals, faults}
 use Rattle.machine_steps.specs.Programs.{IsRunnable, Machine, IsMachine}
 use Rattle.machine_steps.specs.Raised.{grown_runs}
-use Rattle.machine_steps.specs.Runs.{Runs, Stepped}
+use Rattle.machine_steps.specs.Runs.{Stepped}
 use Rattle.machine_invocations.specs.Methods.{classes_in}
 use Rattle.machine_objects.specs.Taking.{RoomForm, Breaks, IsTakenFrom, Takes}
 use Rattle.machine_objects.specs.Following.{goes_next_with, has_space, CanGive, CannotGive, front_of}
@@ -57,9 +50,9 @@ use Rattle.machine_objects.specs.Making.{FollowsNew}
 use Rattle.machine_objects.proofs.Asked.{IsForm, breaks_moves, refused_moves, fault_moves}
 use Rattle.machine_objects.proofs.Bare.{bare_types}
 use Rattle.machine_objects.proofs.Followed.{split}
-use Rattle.machine_objects.proofs.Made.{New, new_moves, reference_form, no_room, some_room, nothing_taken}
+use Rattle.machine_objects.proofs.Made.{new_moves, reference_form, no_room, some_room, nothing_taken}
 use Rattle.machine_objects.proofs.TypeMoves.{class_free, class_missing}
-use Rattle.machine_objects.proofs.Unchanged.{names_are, same_but, no_longer, kept_shares, kept_filled}
+use Rattle.machine_objects.proofs.Unchanged.{names_are, kept_shares, kept_filled}
 
 distinct_in : (k : Known) (m : Machine) → IsMachine k m → AreDistinct m.setting.heads
 distinct_in k m is = subst AreDistinct (sym is.heads) is.distinct
@@ -140,7 +133,7 @@ turn_keeps type (suc n) w = turn_keeps type n w
 
 module _ (k : Known) (runnable : IsRunnable k) (old : MachineState) (class : List ℕ) (size : ℤ) where
   abbrev pub array_form : RoomForm
-  array_form room = definition.new_array (Some class) (array_of class) 1
+  array_form slots = definition.new_array (Some class) (array_of class) 1
 
   is_array_form : IsForm (NewReferenceArray class) array_form
   is_array_form = record { is = λ s ops ls. refl }

@@ -1,5 +1,5 @@
 -- Reading and writing a field, as the machine does it.
-use Rattle.std.specs.Prelude.{◌≡◌, ℕ, Bool, true, false, if◌then◌else◌, List, [], ◌∷◌, Option, Some, None, refl}
+use Rattle.std.specs.Prelude.{◌≡◌, ℕ, Bool, true, false, if◌then◌else◌, List, Option, Some, None, refl}
 use Rattle.std.proofs.Common.{sym, ap, ◌∙◌, subst}
 use Rattle.std.specs.Option.{option_map}
 use Rattle.class_file.specs.declared.types.ClassFile.{ClassFile}
@@ -11,27 +11,23 @@ use Rattle.class_machine.specs.declared.kinds.Kind.{Kind}
 use Rattle.class_machine.specs.Answers as answers
 use Rattle.class_machine.specs.Answers.{answer}
 use Rattle.class_machine.specs.Classes.{Classes, member_text}
-use Rattle.class_machine.specs.ClassFiles.{Place, class_code}
+use Rattle.class_machine.specs.ClassFiles.{class_code}
 use Rattle.class_machine.specs.Descriptors.{kind_in, element_of, narrowed}
 use Rattle.class_machine.specs.Effect as definition
 use Rattle.class_machine.specs.Effect.{GetField, PutField}
-use Rattle.class_machine.specs.Machine.{State}
 use Rattle.class_machine.specs.Operations.{FieldAccess}
 use Rattle.class_machine.specs.Turn.{Free, Link, instance_field, missing_member}
 use Rattle.class_machine.specs.Values as machine
 use Rattle.class_machine.specs.World.{World, read_field, write_field}
 use Rattle.machine_frames.specs.Naming.{reference, held as named_value}
-use Rattle.machine_frames.specs.Undoing.{reference_value}
-use Rattle.machine_values.specs.declared.observed.Ending.TheVariants.{Broken, Unresolved}
+use Rattle.machine_values.specs.declared.observed.Ending.TheVariants.{Unresolved}
 use Rattle.machine_values.specs.declared.names.Name.{Name}
-use Rattle.machine_values.specs.declared.script.Answer.{Answer}
 use Rattle.machine_values.specs.declared.state.MachineState.{MachineState}
 use Rattle.machine_values.specs.declared.values.Ref.{Ref}
 use Rattle.machine_values.specs.declared.values.Value.{Value}
 use Rattle.machine_values.specs.Standing.{name_of, held}
 use Rattle.machine_values.specs.Things.{Things}
 use Rattle.machine_requests.specs.declared.reply.Reply.{Reply}
-use Rattle.machine_requests.specs.Objects.{AreFilled}
 use Rattle.machine_requests.specs.Replies.{Replies, IsLonger}
 use Rattle.machine_requests.specs.Shares.{others_of}
 use Rattle.machine_steps.specs.declared.step.Step.{Step}
@@ -39,11 +35,10 @@ use Rattle.machine_steps.specs.declared.step.Step.TheVariants.{Ended}
 use Rattle.machine_steps.specs.Executing.{executes}
 use Rattle.machine_steps.specs.Moves.{Moves, MovesWithLocals, faults}
 use Rattle.machine_steps.specs.Programs.{Machine, IsMachine}
-use Rattle.machine_invocations.specs.Methods.{classes_in}
-use Rattle.machine_objects.specs.Fields.{field_of, IsInstanceField, LacksInstanceField, Reads, Writes}
-use Rattle.machine_objects.specs.Taking.{Breaks, IsTakenFrom, Takes, access_form}
+use Rattle.machine_objects.specs.Fields.{IsInstanceField, LacksInstanceField, Reads, Writes}
+use Rattle.machine_objects.specs.Taking.{IsTakenFrom, Takes, access_form}
 use Rattle.machine_objects.specs.Following.{keeps_answers, KeepsAnswers, Follows}
-use Rattle.machine_objects.proofs.Asked.{IsForm, Answers, breaks_moves, refused_moves, answered_moves, fault_moves}
+use Rattle.machine_objects.proofs.Asked.{IsForm, refused_moves, answered_moves, fault_moves}
 use Rattle.machine_objects.proofs.Unchanged.{names_are, same_but, no_longer, kept_shares, kept_filled}
 
 -- ---- the search

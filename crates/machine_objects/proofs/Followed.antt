@@ -1,5 +1,5 @@
 -- What becomes of the running frame behind its instruction.
-use Rattle.std.specs.Prelude.{◌≡◌, ℕ, ◌+◌, ◌-◌, ◌<◌, ◌≤◌, Bool, true, false, if◌then◌else◌, nat_le, is_some, List, [], ◌∷◌, ◌++◌, take, length, Option, Some, None, refl}
+use Rattle.std.specs.Prelude.{◌≡◌, ℕ, ◌+◌, ◌-◌, ◌≤◌, Bool, true, false, if◌then◌else◌, nat_le, is_some, List, [], ◌∷◌, ◌++◌, length, Option, refl}
 use Rattle.std.specs.Option.{option_map}
 use Rattle.std.specs.List.{AllByRecursion}
 use Rattle.std.proofs.Common.{sym, ap, ◌∙◌, subst, arith, length-append}
@@ -17,7 +17,7 @@ use Rattle.class_machine.specs.Values.{Held, held_width, Plain, Content, pushed_
 use Rattle.class_machine.specs.World.{World}
 use Rattle.machine_code.specs.declared.method_code.MethodCode as lent
 use Rattle.machine_code.specs.Views.{code_seen}
-use Rattle.machine_frames.specs.Effects.{operands_of, locals_of}
+use Rattle.machine_frames.specs.Effects.{locals_of}
 use Rattle.machine_frames.specs.Named.{content_of}
 use Rattle.machine_frames.proofs.Pushing.{weight-values}
 use Rattle.machine_values.specs.declared.frames.Frame.{Frame}
@@ -28,7 +28,7 @@ use Rattle.machine_values.specs.declared.state.MachineState.{MachineState}
 use Rattle.machine_values.specs.declared.values.Value.{Value}
 use Rattle.machine_values.specs.declared.values.Value.TheVariants.{Int, Long, Float, Double, Null, Reference, Token, ReturnAddress}
 use Rattle.machine_values.specs.Stacks.{width, weight}
-use Rattle.machine_values.specs.Standing.{held, Settled}
+use Rattle.machine_values.specs.Standing.{held}
 use Rattle.machine_values.specs.States.{IsFrameWithin}
 use Rattle.machine_requests.specs.declared.reply.Reply.TheVariants.{Gives, Done, Faults, Refuses}
 use Rattle.machine_requests.specs.Growth.{frame_stays}
@@ -46,7 +46,7 @@ use Rattle.machine_steps.specs.Running.{seen_by, waiting, first_same, all_last, 
 use Rattle.machine_steps.specs.Runs.{Runs, Stepped}
 use Rattle.machine_steps.specs.Within.{frame_more}
 use Rattle.machine_objects.specs.Taking.{IsTakenFrom}
-use Rattle.machine_objects.specs.Following.{TellsNext, goes_next, goes_next_with, has_space, CanGive, keeps_answers, KeepsAnswers, front_of, replied_step, Follows}
+use Rattle.machine_objects.specs.Following.{TellsNext, goes_next, goes_next_with, CanGive, front_of, replied_step, Follows}
 
 -- ---- the place behind the instruction
 
@@ -187,27 +187,27 @@ module _ (m : Machine) (left : List Answer) (t : State Place) (vs : List Value) 
 
 module _ (k : Known) (mid new : MachineState) (step : Step) (vs : List Value) where
   pub follows_gives : (v : Value) → CanGive mid v → Moves k mid new step (goes_next_with (λ x u. held x.setting.heads mid.heap.names v)) → Follows k mid new step (Gives v) vs
-  follows_gives v can moves m left t old (answers.Gives h w) from is runs same longer replies filled kept = given m left t vs old mid from runs same longer k new step v h w is can moves replies filled kept.kept
-  follows_gives v can moves m left t old (answers.Done w) from is runs same longer replies filled kept = absurd replies
-  follows_gives v can moves m left t old (answers.Faults fault) from is runs same longer replies filled kept = absurd replies
-  follows_gives v can moves m left t old answers.Refuses from is runs same longer replies filled kept = absurd replies
+  follows_gives v can moves m left t old (answers.Gives h w) from is runs same longer replies filled answered = given m left t vs old mid from runs same longer k new step v h w is can moves replies filled answered.kept
+  follows_gives v can moves m left t old (answers.Done w) from is runs same longer replies filled answered = absurd replies
+  follows_gives v can moves m left t old (answers.Faults fault) from is runs same longer replies filled answered = absurd replies
+  follows_gives v can moves m left t old answers.Refuses from is runs same longer replies filled answered = absurd replies
 
   pub follows_done : Moves k mid new step goes_next → Follows k mid new step Done vs
-  follows_done moves m left t old (answers.Done w) from is runs same longer replies filled kept = done m left t vs old mid from runs same longer k new step w is moves replies filled kept.kept
-  follows_done moves m left t old (answers.Gives h w) from is runs same longer replies filled kept = absurd replies
-  follows_done moves m left t old (answers.Faults fault) from is runs same longer replies filled kept = absurd replies
-  follows_done moves m left t old answers.Refuses from is runs same longer replies filled kept = absurd replies
+  follows_done moves m left t old (answers.Done w) from is runs same longer replies filled answered = done m left t vs old mid from runs same longer k new step w is moves replies filled answered.kept
+  follows_done moves m left t old (answers.Gives h w) from is runs same longer replies filled answered = absurd replies
+  follows_done moves m left t old (answers.Faults fault) from is runs same longer replies filled answered = absurd replies
+  follows_done moves m left t old answers.Refuses from is runs same longer replies filled answered = absurd replies
 
   pub follows_faults : (r : MachineState) (fault : Fault) → ((before : MachineState) → IsTakenFrom vs before mid → r ≡ record mid { frames = before.frames }) → MovesWithLocals k r new step (faults fault) → Follows k mid new step (Faults fault) vs
-  follows_faults r fault back moves m left t old (answers.Faults other) from is runs same longer replies filled kept =
+  follows_faults r fault back moves m left t old (answers.Faults other) from is runs same longer replies filled answered =
       subst (λ (x : Fault). Stepped m new left step (replied_step m t.due t.world (seen_by m old.heap.names from.frame) (content_of (naming_of m old) from.left) (waiting m old.heap.names (front_of old)) (answers.Faults x))) replies.0
       (thrown m left t vs old mid from runs same longer k r new step fault (back old from) is moves replies.1 filled)
-  follows_faults r fault back moves m left t old (answers.Gives h w) from is runs same longer replies filled kept = absurd replies
-  follows_faults r fault back moves m left t old (answers.Done w) from is runs same longer replies filled kept = absurd replies
-  follows_faults r fault back moves m left t old answers.Refuses from is runs same longer replies filled kept = absurd replies
+  follows_faults r fault back moves m left t old (answers.Gives h w) from is runs same longer replies filled answered = absurd replies
+  follows_faults r fault back moves m left t old (answers.Done w) from is runs same longer replies filled answered = absurd replies
+  follows_faults r fault back moves m left t old answers.Refuses from is runs same longer replies filled answered = absurd replies
 
 pub follows_refuses : (k : Known) (mid new : MachineState) (vs : List Value) → Follows k mid new (Ended Broken) Refuses vs
-follows_refuses k mid new vs m left t old answers.Refuses from is runs same longer replies filled kept = refl
-follows_refuses k mid new vs m left t old (answers.Gives h w) from is runs same longer replies filled kept = absurd replies
-follows_refuses k mid new vs m left t old (answers.Done w) from is runs same longer replies filled kept = absurd replies
-follows_refuses k mid new vs m left t old (answers.Faults fault) from is runs same longer replies filled kept = absurd replies
+follows_refuses k mid new vs m left t old answers.Refuses from is runs same longer replies filled answered = refl
+follows_refuses k mid new vs m left t old (answers.Gives h w) from is runs same longer replies filled answered = absurd replies
+follows_refuses k mid new vs m left t old (answers.Done w) from is runs same longer replies filled answered = absurd replies
+follows_refuses k mid new vs m left t old (answers.Faults fault) from is runs same longer replies filled answered = absurd replies

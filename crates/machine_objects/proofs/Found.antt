@@ -1,8 +1,7 @@
 -- Fields and classes that searches find.
-use Rattle.std.specs.Prelude.{◌≡◌, ℕ, ◌<◌, ◌==◌, ◌&&◌, Bool, true, false, if◌then◌else◌, List, [], ◌∷◌, length, slice_get, Option, Some, None, is_some, refl}
+use Rattle.std.specs.Prelude.{◌≡◌, ℕ, ◌==◌, ◌&&◌, Bool, true, false, if◌then◌else◌, List, [], ◌∷◌, length, slice_get, Option, Some, None, is_some, refl}
 use Rattle.std.proofs.Common.{sym, ap, ◌∙◌, subst}
 use Rattle.std.specs.Option.{option_map, option_and_then}
-use Rattle.std.specs.List.{sum}
 use Rattle.std.proofs.lemmas.Bool.{false≢true}
 use Rattle.std.proofs.lemmas.Option.{none-some, same_Some}
 use Rattle.class_file.specs.Pool.{Reference}
@@ -22,7 +21,7 @@ use Rattle.machine_fields.specs.FieldLaws.{found_is_first, first_field_numbered}
 use Rattle.machine_steps.specs.Programs.{IsRunnable}
 use Rattle.machine_steps.proofs.InLibrary.{library_place}
 use Rattle.machine_invocations.specs.Methods.{classes_in, members_in}
-use Rattle.machine_objects.specs.Fields.{field_of, IsInstanceField, LacksInstanceField}
+use Rattle.machine_objects.specs.Fields.{IsInstanceField, LacksInstanceField}
 
 -- ---- fields
 

@@ -1,5 +1,5 @@
 -- Fields of the objects of a heap.
-use Rattle.std.specs.Prelude.{◌≡◌, ℕ, zero, suc, ◌<◌, ◌≤◌, ◌^◌, Bool, true, false, if◌then◌else◌, nat_lt, List, [], ◌∷◌, length, slice_get, Option, Some, None, unwrap_or, refl}
+use Rattle.std.specs.Prelude.{◌≡◌, ℕ, suc, ◌<◌, ◌≤◌, ◌^◌, Bool, true, false, if◌then◌else◌, List, [], ◌∷◌, length, slice_get, Option, Some, None, unwrap_or, refl}
 use Rattle.std.proofs.Common.{sym, ap, ◌∙◌, subst, arith}
 use Rattle.std.specs.Option.{option_map}
 use Rattle.std.proofs.lemmas.Bool.{ltb-true}
@@ -15,7 +15,7 @@ use Rattle.class_machine.specs.declared.kinds.Element.{Element}
 use Rattle.class_machine.specs.declared.kinds.Fault.{Fault}
 use Rattle.class_machine.specs.Answers as answers
 use Rattle.class_machine.specs.Answers.{answer, declared, declared_name}
-use Rattle.class_machine.specs.Classes.{Field, same_member}
+use Rattle.class_machine.specs.Classes.{same_member}
 use Rattle.class_machine.specs.Declarations.{declared_in}
 use Rattle.class_machine.specs.Descriptors.{element_of, narrowed}
 use Rattle.class_machine.specs.Effect.{GetField, PutField}
@@ -31,7 +31,7 @@ use Rattle.machine_values.specs.declared.names.Name.TheVariants.{Made, Literal, 
 use Rattle.machine_values.specs.declared.content.Content.{Content}
 use Rattle.machine_values.specs.declared.content.Content.TheVariants.{Values, Text, Fixed}
 use Rattle.machine_values.specs.Standing.{name_in, name_of, held}
-use Rattle.machine_values.specs.Things.{Things, values_of, values_at}
+use Rattle.machine_values.specs.Things.{Things, values_of}
 use Rattle.machine_requests.specs.declared.reply.Reply.{Reply}
 use Rattle.machine_requests.specs.declared.reply.Reply.TheVariants.{Gives, Done, Faults, Refuses}
 use Rattle.machine_requests.specs.Objects.{fields_in, fields_at, field_place, HasField, HoldsSuch, IsBelow, AreFilled}

@@ -1,15 +1,14 @@
 -- Where a switch leads.
-use Rattle.std.specs.Prelude.{◌≡◌, ℕ, ◌+◌, ◌-◌, ◌<◌, Bool, true, false, if◌then◌else◌, is_some, List, [], ◌∷◌, ◌++◌, map, reverse, take, length, slice_get, slice_set, Option, Some, None, ℤ, refl}
-use Rattle.std.specs.Option.{option_map, option_and_then}
+use Rattle.std.specs.Prelude.{◌≡◌, ℕ, ◌+◌, ◌-◌, is_some, List, [], ◌∷◌, map, reverse, take, length, slice_get, Option, Some, None, ℤ, refl}
+use Rattle.std.specs.Option.{option_and_then}
 use Rattle.std.proofs.Common.{get_or, sym, ap, ◌∙◌, subst, arith}
 use Rattle.std.proofs.lemmas.Option.{same_Some}
 use Rattle.class_world.specs.Tables.{Known}
 use Rattle.class_machine.specs.ClassFiles.{Place, MethodCode, place_in, line_at, target_pc, method_code, class_code}
 use Rattle.class_machine.specs.Effect as definition
 use Rattle.class_machine.specs.Effect.{key_target}
-use Rattle.class_machine.specs.Events as events
 use Rattle.class_machine.specs.Machine.{State, moved}
-use Rattle.class_machine.specs.Operations.{Operation, Switch}
+use Rattle.class_machine.specs.Operations.{Switch}
 use Rattle.class_machine.specs.Turn as turns
 use Rattle.class_machine.specs.Turn.{stays, stops, resolved}
 use Rattle.class_machine.specs.Values.{Content}
@@ -30,9 +29,9 @@ use Rattle.machine_steps.specs.Going.{moves_turned}
 use Rattle.machine_steps.specs.Moves.{Moves, moved_by, goes_on}
 use Rattle.machine_steps.specs.Programs.{Machine, IsMachine}
 use Rattle.machine_steps.specs.Running.{seen_by, waiting, first_same, frames_are, turned_at, Turned, HasRunningCode}
-use Rattle.machine_steps.specs.Runs.{Runs, Stepped}
+use Rattle.machine_steps.specs.Runs.{Runs}
 use Rattle.machine_objects.specs.Switching.{StandsThere}
-use Rattle.machine_objects.specs.Taking.{Switches, RoomForm}
+use Rattle.machine_objects.specs.Taking.{Switches}
 use Rattle.machine_objects.proofs.Asked.{IsForm}
 use Rattle.machine_objects.proofs.Followed.{stay_same}
 use Rattle.machine_objects.proofs.Taken.{there, last_is}

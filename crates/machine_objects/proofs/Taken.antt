@@ -1,10 +1,9 @@
 -- Operands that are taken from the running frame.
-use Rattle.std.specs.Prelude.{◌≡◌, ℕ, zero, suc, ◌+◌, ◌-◌, ◌<◌, true, false, List, [], ◌∷◌, ◌++◌, map, reverse, take, length, slice_get, slice_set, Option, Some, None, MatchOption, IfSome, ℤ, refl}
-use Rattle.std.proofs.Common.{get_or, sym, ap, ◌∙◌, subst, arith, length-append}
+use Rattle.std.specs.Prelude.{◌≡◌, ℕ, zero, suc, ◌+◌, ◌-◌, ◌<◌, List, [], ◌∷◌, ◌++◌, map, reverse, take, length, slice_get, slice_set, Option, Some, None, MatchOption, IfSome, ℤ, refl}
+use Rattle.std.proofs.Common.{get_or, sym, ap, ◌∙◌, subst, arith}
 use Rattle.std.proofs.Math.ListN.{length-set}
 use Rattle.std.specs.List.{AllByRecursion}
 use Rattle.std.specs.Vec.{with_item}
-use Rattle.std.proofs.lemmas.Bool.{false≢true}
 use Rattle.std.proofs.lemmas.Option.{same_Some, slice_get_read}
 use Rattle.class_world.specs.Tables.{Known}
 use Rattle.class_machine.specs.ClassFiles.{Place}
@@ -26,7 +25,7 @@ use Rattle.machine_values.specs.States.{IsFrameWithin}
 use Rattle.machine_steps.specs.Giving.{naming_of}
 use Rattle.machine_steps.specs.Going.{formed_turned}
 use Rattle.machine_steps.specs.Programs.{Machine}
-use Rattle.machine_steps.specs.Running.{seen_by, waiting, first_same, all_front, all_last, all_pushed, frames_are, split_last, set_last, Turned, turned_at}
+use Rattle.machine_steps.specs.Running.{seen_by, first_same, all_front, all_last, all_pushed, frames_are, split_last, set_last, Turned, turned_at}
 use Rattle.machine_steps.specs.Runs.{IsMethod, IsFormed, Runs}
 use Rattle.machine_objects.specs.Taking.{RoomForm, Breaks, IsTakenFrom, Takes, Switches}
 use Rattle.machine_objects.proofs.Vectors.{item_back}

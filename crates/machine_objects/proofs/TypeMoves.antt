@@ -8,10 +8,9 @@ use Rattle.class_machine.specs.declared.kinds.Fault.{Fault}
 use Rattle.class_machine.specs.Answers as answers
 use Rattle.class_machine.specs.Answers.{answer}
 use Rattle.class_machine.specs.Classes.{Classes, dotted}
-use Rattle.class_machine.specs.ClassFiles.{Place, class_code}
+use Rattle.class_machine.specs.ClassFiles.{class_code}
 use Rattle.class_machine.specs.Effect as definition
 use Rattle.class_machine.specs.Effect.{Request, Cast, IsInstance}
-use Rattle.class_machine.specs.Machine.{State}
 use Rattle.class_machine.specs.Operations.{Operation, CheckCast, InstanceOf}
 use Rattle.class_machine.specs.Turn.{Free, Link, asked_link, or_free, missing_class}
 use Rattle.class_machine.specs.Values as machine
@@ -19,12 +18,10 @@ use Rattle.class_machine.specs.World.{World}
 use Rattle.machine_frames.specs.Naming.{reference}
 use Rattle.machine_values.specs.declared.observed.Ending.TheVariants.{Unresolved}
 use Rattle.machine_values.specs.declared.names.Name.{Name}
-use Rattle.machine_values.specs.declared.script.Answer.{Answer}
 use Rattle.machine_values.specs.declared.state.MachineState.{MachineState}
 use Rattle.machine_values.specs.declared.values.Ref.{Ref}
 use Rattle.machine_values.specs.declared.values.Value.{Value}
 use Rattle.machine_values.specs.Standing.{name_of}
-use Rattle.machine_values.specs.Things.{Things}
 use Rattle.machine_requests.specs.declared.reply.Reply.{Reply}
 use Rattle.machine_requests.specs.Objects.{IsBelow}
 use Rattle.machine_requests.specs.Replies.{Replies, IsAnswerWhere}
@@ -40,7 +37,7 @@ use Rattle.machine_invocations.specs.Methods.{classes_in}
 use Rattle.machine_objects.specs.Types.{TellsType}
 use Rattle.machine_objects.specs.Taking.{Takes}
 use Rattle.machine_objects.specs.Following.{keeps_answers, KeepsAnswers, Follows}
-use Rattle.machine_objects.proofs.Asked.{IsForm, Answers, refused_moves, answered_moves}
+use Rattle.machine_objects.proofs.Asked.{IsForm, refused_moves, answered_moves}
 use Rattle.machine_objects.proofs.Unchanged.{names_are, same_but, no_longer, kept_shares, kept_filled}
 
 -- ---- classes

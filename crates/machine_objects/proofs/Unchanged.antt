@@ -1,11 +1,10 @@
 -- A state whose frames alone changed.
-use Rattle.std.specs.Prelude.{◌≡◌, List, [], ◌++◌, refl}
+use Rattle.std.specs.Prelude.{◌≡◌, List, []}
 use Rattle.std.proofs.Common.{sym, ap, ◌∙◌, subst}
 use Rattle.std.proofs.lemmas.List.{append-nil}
 use Rattle.class_machine.specs.ClassFiles.{Place}
 use Rattle.class_machine.specs.Machine.{State}
 use Rattle.machine_values.specs.declared.script.Answer.{Answer}
-use Rattle.machine_values.specs.declared.names.Name.{Name}
 use Rattle.machine_values.specs.declared.state.MachineState.{MachineState}
 use Rattle.machine_values.specs.Things.{Things}
 use Rattle.machine_requests.specs.Objects.{AreFilled}

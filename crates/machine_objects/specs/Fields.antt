@@ -5,13 +5,12 @@ use Rattle.class_file.specs.Pool.{Reference}
 use Rattle.class_heads.specs.declared.types.FieldHead.{FieldHead}
 use Rattle.class_heads.specs.declared.types.ClassHead.{ClassHead}
 use Rattle.class_world.specs.Tables.{Known}
-use Rattle.class_machine.specs.Answers as answers
 use Rattle.class_machine.specs.Answers.{answer}
 use Rattle.class_machine.specs.Classes.{Field}
 use Rattle.class_machine.specs.ClassFiles.{class_code}
 use Rattle.class_machine.specs.Declarations.{declared_in, member_name}
 use Rattle.class_machine.specs.Effect.{GetField, PutField}
-use Rattle.class_machine.specs.Turn.{Link, instance_field, missing_member}
+use Rattle.class_machine.specs.Turn.{instance_field, missing_member}
 use Rattle.class_machine.specs.Values.{class_of}
 use Rattle.class_machine.specs.World.{World}
 use Rattle.machine_values.specs.declared.values.Ref.{Ref}

@@ -17,7 +17,6 @@ use Rattle.machine_values.specs.declared.state.MachineState.{MachineState}
 use Rattle.machine_values.specs.declared.values.Value.{Value}
 use Rattle.machine_values.specs.Stacks.{width, weight}
 use Rattle.machine_values.specs.Standing.{Settled}
-use Rattle.machine_values.specs.States.{IsFrameWithin}
 use Rattle.machine_requests.specs.declared.reply.Reply.{Reply}
 use Rattle.machine_requests.specs.Objects.{AreFilled}
 use Rattle.machine_requests.specs.Replies.{Replies, IsLonger}

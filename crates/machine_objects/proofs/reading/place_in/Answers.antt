@@ -1,4 +1,3 @@
-use Rattle.std.specs.Prelude.{Some}
 use Rattle.machine_objects.proofs.Places.{class_place, no_place}
 use Rattle.machine_objects.proofs.reading.place_in.Goals as goal
 

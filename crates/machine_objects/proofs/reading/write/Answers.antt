@@ -1,13 +1,9 @@
-use Rattle.std.proofs.Common.{◌≡◌, Bool, true, false, sym, ◌∙◌, ap, subst}
-use Rattle.std.specs.Prelude.{length, Some}
+use Rattle.std.proofs.Common.{Bool, sym, subst}
+use Rattle.std.specs.Prelude.{Some}
 use Rattle.std.proofs.lemmas.Bool.{false≢true}
-use Rattle.class_world.specs.Tables.{Known}
-use Rattle.machine_requests.specs.declared.reply.Reply.{Reply}
 use Rattle.machine_requests.specs.declared.reply.Reply.TheVariants.{Done}
 use Rattle.machine_requests.specs.Objects.{IsBelow}
-use Rattle.machine_requests.specs.Telling.{AreDistinct, AreFit}
 use Rattle.machine_fields.specs.Settings.{world_setting}
-use Rattle.machine_objects.specs.Fields.{Writes}
 use Rattle.machine_objects.proofs.Places.{writes_there, writes_else}
 use Rattle.machine_objects.proofs.reading.write.Goals as goal
 
