@@ -18,12 +18,12 @@ use Rattle.machine_requests.specs.Telling.{AreDistinct}
 use Rattle.machine_rules.specs.Library.{HasLibrary}
 use Rattle.machine_rules.specs.Selecting.{Declares}
 
-get_behind : {X : Type 0} (xs ys : List X) (i : ℕ) → slice_get (xs ++ ys) (length xs + i) ≡ slice_get ys i
+pub get_behind : {X : Type 0} (xs ys : List X) (i : ℕ) → slice_get (xs ++ ys) (length xs + i) ≡ slice_get ys i
 get_behind [] ys i = let e : 0 + i ≡ i = omega arith in ap (slice_get ys) e
 get_behind (x ∷ xs) ys i = let e : length (x ∷ xs) + i ≡ suc (length xs + i) = omega arith in ap (slice_get (x ∷ xs ++ ys)) e ∙ get_behind xs ys i
 
 -- a class of the library is at its place in a world
-class_behind : (k : Known) (name : List ℕ) (i : ℕ) (head : ClassHead) (place : ℕ) → HasLibrary k → AreDistinct k.heads → slice_get library_heads i ≡ Some head → head.name ≡ name → place_of k.heads name ≡ Some place
+pub class_behind : (k : Known) (name : List ℕ) (i : ℕ) (head : ClassHead) (place : ℕ) → HasLibrary k → AreDistinct k.heads → slice_get library_heads i ≡ Some head → head.name ≡ name → place_of k.heads name ≡ Some place
     → slice_get k.heads place ≡ Some head
 unfolding HasLibrary
 class_behind k name i head place has distinct there named found =

@@ -1,4 +1,8 @@
 pub mod Asking
+pub mod Boxes
+pub mod ClassObjects
+pub mod Exceptions
+pub mod Fields
 pub mod Filling
 pub mod FillingLaws
 pub mod Finishing

@@ -8,10 +8,16 @@
 
 mod arguments;
 mod asking;
+mod boxes;
+mod buffering;
+mod class_objects;
 mod classes;
 mod describing;
+mod exceptions;
+mod fields;
 mod finishing;
 mod identity;
+mod laws;
 mod numbers;
 mod objects;
 mod printing;
@@ -23,5 +29,6 @@ mod strings;
 mod texts;
 mod work;
 
+pub use laws::bare_types;
 pub use resuming::resume;
 pub use work::Work;
