@@ -4,6 +4,7 @@ ghost use Rattle.std.specs.Prelude.{◌≡◌, ◌<◌, length, IfOk, OnErr};
 ghost use Rattle.boot_library.specs.declared.rule.LibraryRule.TheVariants as rule;
 ghost use Rattle.class_machine.specs.LibraryCalls as calls;
 ghost use Rattle.machine_values.specs.Standing.{name_of, held, Settled};
+ghost use Rattle.machine_rules.specs.Filling.{FillsAt};
 ghost use Rattle.machine_rules.specs.Works.{Does};
 
 use crate::arguments::{TextArgument, text_argument};
@@ -26,6 +27,7 @@ pub(crate) fn fill_buffer(
     requires text { Settled (length heap.old.names) text }
     ensures work { IfOk result (λ work. Does world.now heap.old (λ s names w. calls.with_argument s.classes w rule.FillBuffer (name_of s.heads names at) (held s.heads names text)) heap.new work) }
     ensures names { heap.new.names ≡ heap.old.names }
+    ensures filled { IfOk result (λ work. FillsAt at heap.old heap.new) }
     ensures err { OnErr result (heap.new ≡ heap.old) }
 {
     let units = match text_argument(heap, world, text) {
