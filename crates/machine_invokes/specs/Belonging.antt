@@ -1,0 +1,43 @@
+-- To which part of the machine an invocation belongs.
+use Rattle.std.specs.Prelude.{◌≡◌, ℕ, Bool, true, List, ◌∷◌, length, nat_lt, Option}
+use Rattle.aj_names.specs.declared.ids.MethodId.{MethodId}
+use Rattle.class_file.specs.Pool.{Reference}
+use Rattle.class_world.specs.Tables.{Known}
+use Rattle.class_machine.specs.declared.kinds.Mode.{Mode}
+use Rattle.class_machine.specs.ClassFiles.{Place, class_code}
+use Rattle.class_machine.specs.Classes.{Method}
+use Rattle.class_machine.specs.Machine.{State}
+use Rattle.class_machine.specs.Operations.{Invoke}
+use Rattle.class_machine.specs.Turn as turns
+use Rattle.class_machine.specs.Turn.{effect_at}
+use Rattle.machine_values.specs.declared.frames.Frame.{Frame}
+use Rattle.machine_values.specs.declared.script.Answer.{Answer}
+use Rattle.machine_values.specs.declared.state.MachineState.{MachineState}
+use Rattle.machine_values.specs.declared.values.Ref.{Ref}
+use Rattle.machine_values.specs.Standing.{name_of}
+use Rattle.machine_values.specs.Things.{Things}
+use Rattle.machine_requests.specs.Telling.{AreFit}
+use Rattle.machine_steps.specs.Programs.{Machine, IsMachine}
+use Rattle.machine_steps.specs.Runs.{Runs}
+use Rattle.machine_invocations.specs.Methods.{classes_in, Sees, Finds}
+use Rattle.machine_invocations.specs.Parts.{invoked, part_of_invoke, of_library}
+use Rattle.machine_invocations.specs.Standards.{machine_of}
+use Rattle.machine_invokes.specs.Peeking.{is_special}
+
+-- the selection on the object, where the heap has it
+abbrev pub SelectsOn : Known → Things → Frame → Mode → Ref → ℕ → Option MethodId → Type 0
+SelectsOn k heap frame mode at found result =
+    (fields methods : ℕ → Reference) (f : turns.Frame Place) (m : Method) → IsMachine k (machine_of k fields methods) → AreFit (length k.heads) heap.names → f.method ≡ methods frame.method.0 → Sees k found m
+    → nat_lt at.0 (length heap.names) ≡ true → Finds k result (turns.selection (class_code k.files) (classes_in k) f (is_special mode) (name_of k.heads heap.names at) m)
+
+-- whatever state of the machine with a running frame the state stands for, that is what the invocation there finds
+abbrev pub FindsInvoked : Known → MachineState → Mode → Reference → Option MethodId → Type 0
+FindsInvoked k state mode r result =
+    (m : Machine) (left : List Answer) (t : State Place) (f : turns.Frame Place) (below : List (turns.Frame Place)) → IsMachine k m → Runs m state left t → t.frames ≡ f ∷ below
+    → Finds k result (invoked m f r (effect_at (class_code m.files) m.setting.classes f (Invoke mode r)))
+
+-- the invocation is the library's or not
+abbrev pub BelongsTo : Known → MachineState → Mode → Reference → Bool → Type 0
+BelongsTo k state mode r library =
+    (m : Machine) (left : List Answer) (t : State Place) (f : turns.Frame Place) (below : List (turns.Frame Place)) → IsMachine k m → Runs m state left t → t.frames ≡ f ∷ below
+    → part_of_invoke m f r (Invoke mode r) ≡ of_library library

@@ -1,0 +1,28 @@
+-- What an invocation took and changed.
+use Rattle.std.specs.Prelude.{◌≡◌, ◌++◌, Bool, List, [], ◌∷◌, reverse, Option, Some, None}
+use Rattle.machine_values.specs.declared.state.MachineState.{MachineState}
+use Rattle.machine_frames.specs.declared.calls.Receiver.TheVariants.{Object}
+use Rattle.machine_frames.specs.Undoing.{receiver_value}
+use Rattle.machine_invokes.specs.declared.invocation.Before.{Before}
+use Rattle.machine_invokes.specs.declared.invocation.Before.TheVariants.{Arguments, Receiver}
+use Rattle.machine_invokes.specs.declared.invocation.Invocation.{Invocation}
+use Rattle.machine_invokes.specs.Taking.{Takes}
+
+-- which classes had begun, where others are marked now
+abbrev pub AreSaved : MachineState → MachineState → Option (List Bool) → Type 0
+AreSaved old new None = new ≡ old
+AreSaved old new (Some begun) = (begun ≡ old.begun) × (new ≡ record old { frames = new.frames; begun = new.begun }) × (new.frames.items ≡ old.frames.items)
+
+-- the arguments were taken, and then classes were marked as begun or not
+pub record TookArguments (old new : MachineState) (call : Invocation) (saved : Option (List Bool)) : Type 0 where
+  pub mid : MachineState
+  pub takes : Takes old mid (reverse call.arguments.items)
+  pub marked : AreSaved mid new saved
+
+-- the state was the old one before the invocation
+abbrev pub UndoneBy : MachineState → MachineState → Invocation → Before → Type 0
+UndoneBy old new call (Arguments saved) = TookArguments old new call saved
+UndoneBy old new call Receiver = Takes old new (reverse call.arguments.items ++ receiver_value (Object call.receiver) ∷ [])
+
+pub record CanUndo (old new : MachineState) (call : Invocation) : Type 0 where
+  pub undone : UndoneBy old new call call.before

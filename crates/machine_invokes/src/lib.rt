@@ -1,0 +1,20 @@
+//! The invoke instructions, up to where the method that is to run is known with its receiver and its
+//! arguments (The Java Virtual Machine Specification, second edition, 2.17.4, 3.11.8, 5.4.3 and 6,
+//! `invokeinterface` to `invokevirtual`). Running it is done elsewhere.
+#![tactic(auto)]
+
+mod begun;
+mod choosing;
+mod invocation;
+mod parts;
+mod peeks;
+mod selecting;
+mod taking;
+
+pub use begun::have_begun;
+pub use choosing::{Choice, choose_null, choose_on, choose_static, find_instance, lacks_room};
+pub use invocation::{Before, Invocation, Prepared};
+pub use parts::part_of_call;
+pub use taking::{
+    are_settled, parameter_kinds, put_arguments_back, put_receiver_back, take_on, take_static,
+};
