@@ -5,3 +5,6 @@ pub mod Searched
 pub mod Invoked
 pub mod Taken
 pub mod Climbing
+pub mod Started
+pub mod SameTurn
+pub mod StaticCalls

@@ -41,6 +41,13 @@ set_middle : {A : Type 0} (below above : List A) (x y : A) → slice_set (below 
 set_middle [] above x y = refl
 set_middle (z ∷ below) above x y = ap (λ xs. z ∷ xs) (set_middle below above x y)
 
+pub same_last : {A : Type 0} (xs rest : List A) (top : ℕ) (f g : A) → top + 1 ≡ length xs → slice_get xs top ≡ Some f → xs ≡ rest ++ g ∷ [] → f ≡ g
+same_last xs rest top f g last there at =
+    let len : length xs ≡ length rest + 1 = ap length at ∙ length-append rest (g ∷ []) in
+    let place : top ≡ length rest = omega arith in
+    let e : Some f ≡ Some g = sym there ∙ ap (λ ys. slice_get ys top) at ∙ ap (slice_get (rest ++ g ∷ [])) place ∙ at_middle rest [] g in
+    cc
+
 -- ---- what is taken
 
 module _ (old : MachineState) (top : ℕ) (f p : Frame) (last : top + 1 ≡ length old.frames.items) (there : slice_get old.frames.items top ≡ Some f) where

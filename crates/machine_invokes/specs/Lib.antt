@@ -6,3 +6,4 @@ pub mod Beginning
 pub mod Taking
 pub mod Preparing
 pub mod Undoing
+pub mod Starting
