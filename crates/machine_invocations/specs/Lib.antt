@@ -6,4 +6,4 @@ pub mod Keeping
 pub mod Entering
 pub mod Showing
 pub mod Returning
-pub mod Parts
+pub mod Invoked

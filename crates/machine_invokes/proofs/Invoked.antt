@@ -34,13 +34,13 @@ use Rattle.machine_steps.specs.Programs.{IsRunnable, Machine, IsMachine}
 use Rattle.machine_steps.specs.Running.{seen_by, waiting, first_same, frames_are, all_last}
 use Rattle.machine_steps.specs.Runs.{IsMethod, Runs}
 use Rattle.machine_invocations.specs.Methods.{classes_in, members_in, Sees, Finds, IsFound}
-use Rattle.machine_invocations.specs.Parts.{has_rule, invoked, part_of_invoke, of_library}
+use Rattle.machine_invocations.specs.Invoked.{has_rule, invoked}
 use Rattle.machine_invocations.specs.Standards.{machine_of, by_machine}
 use Rattle.machine_invocations.proofs.Initialised.{called_so}
 use Rattle.machine_invocations.proofs.Locked.{seen_there}
 use Rattle.machine_invocations.proofs.Names.{class_has_members}
 use Rattle.machine_invocations.proofs.Seen.{seen_method}
-use Rattle.machine_invokes.specs.Belonging.{SelectsOn, FindsInvoked, BelongsTo}
+use Rattle.machine_invokes.specs.Belonging.{SelectsOn, FindsInvoked, RunsRule}
 use Rattle.machine_invokes.specs.Peeking.{Called, if_object, called_by, KnowsObject, CalledOn, is_special}
 use Rattle.machine_invokes.specs.Selecting.{Selects}
 
@@ -160,13 +160,13 @@ module _ (k : Known) (state : MachineState) (mode : Mode) (r : Reference) (rest 
 -- ---- whether it is the library's
 
 module _ (k : Known) (state : MachineState) (mode : Mode) (r : Reference) where
-  pub nothing_belongs : FindsInvoked k state mode r None → BelongsTo k state mode r false
-  nothing_belongs finds m left t f below is runs same = ap (λ o. of_library (has_rule o)) (finds m left t f below is runs same)
+  pub nothing_belongs : FindsInvoked k state mode r None → RunsRule k state mode r false
+  nothing_belongs finds m left t f below is runs same = ap has_rule (finds m left t f below is runs same)
 
-  pub ruled_belongs : (id : MethodId) (rule : Option LibraryRule) (library : Bool) → FindsInvoked k state mode r (Some id) → ((m : Method) → Sees k id.0 m → rule ≡ m.rule) → is_some rule ≡ library → BelongsTo k state mode r library
+  pub ruled_belongs : (id : MethodId) (rule : Option LibraryRule) (library : Bool) → FindsInvoked k state mode r (Some id) → ((m : Method) → Sees k id.0 m → rule ≡ m.rule) → is_some rule ≡ library → RunsRule k state mode r library
   ruled_belongs id rule library finds ruled so m left t f below is runs same =
       let found = finds m left t f below is runs same in
-      ap (λ o. of_library (has_rule o)) found.is ∙ ap (λ (o : Option LibraryRule). of_library (is_some o)) (sym (ruled found.method found.sees)) ∙ ap of_library so
+      ap has_rule found.is ∙ ap (λ (o : Option LibraryRule). is_some o) (sym (ruled found.method found.sees)) ∙ so
 
 pub running_method : (k : Known) (state : MachineState) (rest : List Frame) (g : Frame) → state.frames.items ≡ rest ++ g ∷ [] → AllByRecursion (λ (f : Frame). IsMethod k f.method.0) state.frames.items → IsMethod k g.method.0
 running_method k state rest g top all = all_last (λ (f : Frame). IsMethod k f.method.0) rest g (subst (AllByRecursion (λ (f : Frame). IsMethod k f.method.0)) top all)

@@ -1,4 +1,4 @@
--- To which part of the machine an invocation belongs.
+-- Whether an invocation runs a method of the library by its rule.
 use Rattle.std.specs.Prelude.{◌≡◌, ℕ, Bool, true, List, ◌∷◌, length, nat_lt, Option}
 use Rattle.aj_names.specs.declared.ids.MethodId.{MethodId}
 use Rattle.class_file.specs.Pool.{Reference}
@@ -20,7 +20,7 @@ use Rattle.machine_requests.specs.Telling.{AreFit}
 use Rattle.machine_steps.specs.Programs.{Machine, IsMachine}
 use Rattle.machine_steps.specs.Runs.{Runs}
 use Rattle.machine_invocations.specs.Methods.{classes_in, Sees, Finds}
-use Rattle.machine_invocations.specs.Parts.{invoked, part_of_invoke, of_library}
+use Rattle.machine_invocations.specs.Invoked.{has_rule, invoked}
 use Rattle.machine_invocations.specs.Standards.{machine_of}
 use Rattle.machine_invokes.specs.Peeking.{is_special}
 
@@ -36,8 +36,8 @@ FindsInvoked k state mode r result =
     (m : Machine) (left : List Answer) (t : State Place) (f : turns.Frame Place) (below : List (turns.Frame Place)) → IsMachine k m → Runs m state left t → t.frames ≡ f ∷ below
     → Finds k result (invoked m f r (effect_at (class_code m.files) m.setting.classes f (Invoke mode r)))
 
--- the invocation is the library's or not
-abbrev pub BelongsTo : Known → MachineState → Mode → Reference → Bool → Type 0
-BelongsTo k state mode r library =
+-- the method has a rule or not
+abbrev pub RunsRule : Known → MachineState → Mode → Reference → Bool → Type 0
+RunsRule k state mode r library =
     (m : Machine) (left : List Answer) (t : State Place) (f : turns.Frame Place) (below : List (turns.Frame Place)) → IsMachine k m → Runs m state left t → t.frames ≡ f ∷ below
-    → part_of_invoke m f r (Invoke mode r) ≡ of_library library
+    → has_rule (invoked m f r (effect_at (class_code m.files) m.setting.classes f (Invoke mode r))) ≡ library

@@ -6,8 +6,8 @@
 mod begun;
 mod choosing;
 mod invocation;
-mod parts;
 mod peeks;
+mod ruled;
 mod selecting;
 mod starting;
 mod taking;
@@ -15,7 +15,7 @@ mod taking;
 pub use begun::have_begun;
 pub use choosing::{Choice, choose_null, choose_on, choose_static, find_instance, lacks_room};
 pub use invocation::{Before, Invocation, Prepared};
-pub use parts::part_of_call;
+pub use ruled::runs_rule;
 pub use starting::{Start, start_static};
 pub use taking::{
     are_settled, parameter_kinds, put_arguments_back, put_receiver_back, take_on, take_static,

@@ -33,7 +33,7 @@ use Rattle.machine_steps.specs.Programs.{Machine, IsMachine}
 use Rattle.machine_steps.specs.Runs.{IsMethod, Runs, Stepped}
 use Rattle.machine_code.specs.CodeLaws.{method_seen}
 use Rattle.machine_invocations.specs.Methods.{Sees}
-use Rattle.machine_invocations.specs.Parts.{step_of}
+use Rattle.machine_invocations.specs.Invoked.{step_of}
 use Rattle.machine_invocations.specs.Standards.{by_machine}
 use Rattle.machine_invocations.proofs.Initialised.{called_so}
 use Rattle.machine_invocations.proofs.Locked.{seen_there}

@@ -22,7 +22,7 @@ use Rattle.machine_steps.specs.declared.step.Step.{Step}
 use Rattle.machine_steps.specs.Programs.{Machine, IsMachine}
 use Rattle.machine_steps.specs.Runs.{Runs, Stepped}
 use Rattle.machine_invocations.specs.Methods.{Sees}
-use Rattle.machine_invocations.specs.Parts.{step_of}
+use Rattle.machine_invocations.specs.Invoked.{step_of}
 use Rattle.machine_invocations.specs.Returning.{result_held}
 use Rattle.machine_natives.specs.declared.response.Response.{Response}
 use Rattle.machine_natives.specs.declared.response.Response.TheVariants.{Returns, Throws, Lacks}

@@ -16,9 +16,11 @@ mod IdentityWork
 mod Library
 mod LibraryFields
 mod NewWork
+mod OtherRules
 mod PlainNames
 mod ReadFields
 mod Resumed
+mod RuledWork
 mod Rules
 mod Selection
 mod Spelled

@@ -8,6 +8,7 @@ pub mod FillingLaws
 pub mod Finishing
 pub mod Library
 pub mod Reading
+pub mod Ruling
 pub mod Selecting
 pub mod Spelling
 pub mod Texts

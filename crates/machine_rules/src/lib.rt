@@ -23,6 +23,7 @@ mod objects;
 mod printing;
 mod reading;
 mod resuming;
+mod ruling;
 mod selecting;
 mod spelling;
 mod strings;
@@ -31,4 +32,5 @@ mod work;
 
 pub use laws::bare_types;
 pub use resuming::resume;
+pub use ruling::by_rule;
 pub use work::Work;

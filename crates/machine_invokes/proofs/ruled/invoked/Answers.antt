@@ -4,7 +4,7 @@ use Rattle.class_file.specs.Lookup.{reference_seen}
 use Rattle.machine_invocations.proofs.Seen.{seen_method}
 use Rattle.machine_invokes.proofs.Taken.{last_stands, none_stand}
 use Rattle.machine_invokes.proofs.Invoked.{invoked_nowhere, nothing_found, called_on_none, called_on_object, running_method}
-use Rattle.machine_invokes.proofs.parts.invoked.Goals as goal
+use Rattle.machine_invokes.proofs.ruled.invoked.Goals as goal
 
 pub returns-in_default-clause-found : goal.returns-in_default-clause-found
 returns-in_default-clause-found c =

@@ -1,10 +1,10 @@
-//! To which part of the machine an invocation belongs.
+//! Whether an invocation runs a method of the library by its rule.
 
 ghost use Rattle.std.specs.Prelude.{◌≡◌, IfSome};
 ghost use Rattle.class_file.specs.Lookup.{reference_seen};
 ghost use Rattle.machine_steps.specs.Programs.{IsRunnable};
 ghost use Rattle.machine_steps.specs.Runs.{IsMethod, IsFormed};
-ghost use Rattle.machine_invokes.specs.Belonging.{SelectsOn, FindsInvoked, BelongsTo};
+ghost use Rattle.machine_invokes.specs.Belonging.{SelectsOn, FindsInvoked, RunsRule};
 
 use crate::peeks::{called_on, is_special};
 use crate::selecting::{is_known, selected};
@@ -60,12 +60,12 @@ fn invoked(
     selected_on(world, &state.heap, frame, mode, at, found)
 }
 
-/// Whether the invocation at the running frame is the library's: whether the search and, on an object,
-/// the selection find a method of the library. Nothing is taken.
-pub fn part_of_call(state: &MachineState, world: &World, mode: Mode, named: Reference<'_>) -> bool
+/// Whether the invocation at the running frame runs a method of the library that isn't native: whether
+/// the search and, on an object, the selection find one with a rule. Nothing is taken.
+pub fn runs_rule(state: &MachineState, world: &World, mode: Mode, named: Reference<'_>) -> bool
     requires runnable { IsRunnable world.now }
     requires formed { IsFormed world.now state.now }
-    ensures { BelongsTo world.now state.now mode (reference_seen named.entry) result }
+    ensures { RunsRule world.now state.now mode (reference_seen named.entry) result }
 {
     let Some(method) = invoked(state, world, mode, named) else {
         return false;

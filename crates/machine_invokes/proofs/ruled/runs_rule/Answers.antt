@@ -3,7 +3,7 @@ use Rattle.std.proofs.Common.{ap}
 use Rattle.boot_library.specs.declared.rule.LibraryRule.{LibraryRule}
 use Rattle.class_file.specs.Lookup.{reference_seen}
 use Rattle.machine_invokes.proofs.Invoked.{nothing_belongs, ruled_belongs}
-use Rattle.machine_invokes.proofs.parts.part_of_call.Goals as goal
+use Rattle.machine_invokes.proofs.ruled.runs_rule.Goals as goal
 
 pub returns-in_default : goal.returns-in_default
 returns-in_default c = nothing_belongs c.args.world.now c.args.state.now c.args.mode (reference_seen c.args.named) c.in_default.ensures.found
