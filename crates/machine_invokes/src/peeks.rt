@@ -1,26 +1,12 @@
 //! On what a call is, seen while nothing is taken yet.
 
 ghost use Rattle.std.specs.Prelude.{◌≡◌};
-ghost use Rattle.machine_frames.specs.Kinds.{is_of};
 ghost use Rattle.machine_invokes.specs.Peeking.{object_in, KnowsObject, LiesBelow, CalledOn, is_special};
 
-use class_machine::kinds::{Kind, Mode};
+use class_machine::kinds::Mode;
 use machine_code::{parameter_count, parameter_kind};
+use machine_frames::is_of;
 use machine_values::{Frame, Ref, Value};
-
-// Whether it is a plain value of the kind.
-fn is_of(kind: Kind, held: &Value) -> bool
-    ensures { result ≡ is_of kind held.now }
-{
-    match held {
-        Value::Int(_) => matches!(kind, Kind::Int),
-        Value::Long(_) => matches!(kind, Kind::Long),
-        Value::Float(_) => matches!(kind, Kind::Float),
-        Value::Double(_) => matches!(kind, Kind::Double),
-        Value::Null | Value::Reference(_) => matches!(kind, Kind::Reference),
-        Value::Token(_, _) | Value::ReturnAddress(_) => false,
-    }
-}
 
 fn object_in(held: &Value) -> Option<Ref>
     ensures { result ≡ object_in held.now }

@@ -1,16 +1,15 @@
 //! Fields of the objects of a heap, by the classes that declare them (JVMS 2.9.1).
 
 ghost use Rattle.std.specs.Prelude.{◌≡◌, ◌<◌, Some, true, length, IfSome, IsNone, is_some};
-ghost use Rattle.class_machine.specs.Descriptors as machine;
 ghost use Rattle.machine_values.specs.Standing.{Settled};
 ghost use Rattle.machine_values.specs.States.{is_known_object};
 ghost use Rattle.machine_requests.specs.declared.reply.Reply.TheVariants.{Done, Refuses};
 ghost use Rattle.machine_objects.specs.Fields.{HasPlace, LacksField, Reads, Writes, written_reply};
 
 use crate::named::Declared;
-use class_machine::kinds::{Element, Fault};
+use class_machine::kinds::Fault;
 use class_world::World;
-use machine_fields::{class_at, field_position, is_object_below};
+use machine_fields::{class_at, element_of, field_position, is_object_below};
 use machine_requests::{Reply, get_field, put_field};
 use machine_steps::class_name;
 use machine_values::{Heap, Ref, Value};
@@ -54,23 +53,6 @@ pub(crate) fn read(world: &World, heap: &Heap, found: Declared, object: Option<R
     match place_in(world, heap, at, found) {
         Some(index) => get_field(heap, object, instance, index),
         None => read_lacking(heap, at, instance),
-    }
-}
-
-// What a field of the descriptor holds (JVMS 4.3.2).
-fn element_of(descriptor: &[u8]) -> Element
-    ensures { result ≡ machine.element_of descriptor.now }
-{
-    match descriptor {
-        [b'Z', ..] => Element::Boolean,
-        [b'B', ..] => Element::Byte,
-        [b'C', ..] => Element::Char,
-        [b'S', ..] => Element::Short,
-        [b'I', ..] => Element::Int,
-        [b'J', ..] => Element::Long,
-        [b'F', ..] => Element::Float,
-        [b'D', ..] => Element::Double,
-        _ => Element::Reference,
     }
 }
 
