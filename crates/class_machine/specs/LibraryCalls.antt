@@ -1,7 +1,7 @@
 -- What a call of a library method does. It is one step, except that a call of toString or getMessage within it that
 -- selects a method of a class outside the library pushes the frame of that method, and the library call ends as it
 -- returns.
-use Rattle.std.specs.Prelude.{ℕ, ◌+◌, ◌-◌, ◌*◌, ◌/◌, ◌%◌, ◌^◌, ◌==◌, ◌&&◌, Bool, true, false, if◌then◌else◌, List, [], ◌∷◌, ◌++◌, length, take, drop, codes, slice_get, nat_le, bit_xor, Option, Some, None, ℤ, pos, negsuc}
+use Rattle.std.specs.Prelude.{ℕ, ◌+◌, ◌-◌, ◌*◌, ◌/◌, ◌%◌, ◌^◌, ◌==◌, ◌&&◌, Bool, true, false, if◌then◌else◌, List, [], ◌∷◌, ◌++◌, length, take, drop, codes, slice_get, nat_le, bit_xor, is_some, Option, Some, None, ℤ, pos, negsuc}
 use Rattle.std.specs.Option.{unwrap_or}
 use Rattle.std.specs.Str.{bytes_eq}
 use Rattle.std.specs.Int.{w32, w64, cast_unsigned}
@@ -95,8 +95,15 @@ line_feed false = []
 abbrev pub printed : List ℕ → Bool → World → Work
 printed units line w = Results (Some (events.Print (units ++ line_feed line))) None w
 
+-- an object that holds no text is no buffer
 abbrev pub appended : List ℕ → Name → World → Work
-appended units buffer w = gives (Pointer buffer) (set_object w buffer (Text (unwrap_or (units_at w buffer) [] ++ units)))
+appended units buffer w = to (units_at w buffer) where
+  to : Option (List ℕ) → Work
+  to None = Misuses
+  to (Some old) = gives (Pointer buffer) (set_object w buffer (Text (old ++ units)))
+
+abbrev pub filled : List ℕ → Name → World → Work
+filled units buffer w = if is_some (units_at w buffer) then does (set_object w buffer (Text units)) else Misuses
 
 -- a text that no String holds yet
 abbrev pub finish_units : Wait → List ℕ → World → Work
@@ -302,7 +309,7 @@ with_argument cs w rule.SameObject a v = gives (truth (same_held a v)) w
 with_argument cs w rule.CharAt a (Int i) = char_in w (units_in w a) i
 with_argument cs w rule.SameText a v = gives (truth (same_units w (units_in w a) v)) w
 with_argument cs w rule.Concat a v = text_argument w v (λ text. unless_null_text text (λ units. new_text (units_in w a ++ units) w))
-with_argument cs w rule.FillBuffer a v = text_argument w v (λ text. unless_null_text text (λ units. does (set_object w a (Text units))))
+with_argument cs w rule.FillBuffer a v = text_argument w v (λ text. unless_null_text text (λ units. filled units a w))
 with_argument cs w (rule.Append how) a v = spelled cs w how v (Appends a)
 with_argument cs w rule.SetMessage a v = text_argument w v (λ text. does (write_field w a message_field v))
 with_argument cs w (rule.Print how line) a v = spelled cs w how v (Prints line)

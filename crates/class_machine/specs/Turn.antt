@@ -220,8 +220,13 @@ module _ {P : Type 0} (code : Code P) (cs : Classes) where
     given : Name × World → Turn P
     given made = Raises None made.0 c made.1
 
+  -- on with the result on top, where there is room for it
+  abbrev pub given_back : Frame P → Option Held → Content P → (Content P → Turn P) → Turn P
+  given_back f None c go = go c
+  given_back f (Some v) c go = if has_room f.room (held_width v) c.operands then go (pushed_on (Plain v) c) else stops events.Broken
+
   abbrev pub replied : Frame P → Content P → World → Reply → Turn P
-  replied f c w (Gives v w') = stays (code.next f.place) (pushed_on (Plain v) c) w'
+  replied f c w (Gives v w') = given_back f (Some v) c (λ all. stays (code.next f.place) all w')
   replied f c w (Done w') = stays (code.next f.place) c w'
   replied f c w (Faults fault) = fails fault c w
   replied f c w Refuses = stops events.Broken
@@ -262,11 +267,6 @@ module _ {P : Type 0} (code : Code P) (cs : Classes) where
   abbrev pub is_this_or_super : Purpose → Bool
   is_this_or_super Constructs = true
   is_this_or_super _ = false
-
-  -- on with the result on top, where there is room for it
-  abbrev pub given_back : Frame P → Option Held → Content P → (Content P → Turn P) → Turn P
-  given_back f None c go = go c
-  given_back f (Some v) c go = if has_room f.room (held_width v) c.operands then go (pushed_on (Plain v) c) else stops events.Broken
 
   -- a native call: its event, and what the script answers
   abbrev pub responded : Frame P → Content P → Bool → Event → Response → Turn P

@@ -78,7 +78,7 @@ abbrev pub find_field : List (Reference × Held) → Reference → Option Held
 find_field [] r = None
 find_field (f ∷ fields) r = if same_member f.0 r then Some f.1 else find_field fields r
 
--- the fields where that one holds the value, whether or not it was among them
+-- the static fields where that one holds the value, whether or not it was stored to
 abbrev pub set_field : List (Reference × Held) → Reference → Held → List (Reference × Held)
 set_field [] r v = (r, v) ∷ []
 set_field (f ∷ fields) r v = if same_member f.0 r then (r, v) ∷ fields else f ∷ set_field fields r v
@@ -112,12 +112,21 @@ field_of _ r = Null
 abbrev pub read_field : World → Name → Reference → Held
 read_field w a r = field_of (object_at w a) r
 
-abbrev pub stored : Option Object → Reference → Held → Object
-stored (Some (Instance fields)) r v = Instance (set_field fields r v)
-stored _ r v = Instance ((r, v) ∷ [])
+-- the fields of an object with the value in that one; where it isn't among them nothing changes
+abbrev pub with_field : List (Reference × Held) → Reference → Held → List (Reference × Held)
+with_field [] r v = []
+with_field (f ∷ fields) r v = if same_member f.0 r then (r, v) ∷ fields else f ∷ with_field fields r v
+
+abbrev pub stored : Object → Reference → Held → Object
+stored (Instance fields) r v = Instance (with_field fields r v)
+stored object r v = object
+
+abbrev pub written : World → Name → Reference → Held → Option Object → World
+written w a r v None = w
+written w a r v (Some object) = set_object w a (stored object r v)
 
 abbrev pub write_field : World → Name → Reference → Held → World
-write_field w a r v = set_object w a (stored (object_at w a) r v)
+write_field w a r v = written w a r v (object_at w a)
 
 -- ---- new objects
 

@@ -13,7 +13,7 @@ use Rattle.class_machine.specs.Values.{Held, class_of}
 use Rattle.class_machine.specs.Descriptors.{element_of, narrowed}
 use Rattle.class_machine.specs.Classes.{same_member}
 use Rattle.class_machine.specs.World as worlds
-use Rattle.class_machine.specs.World.{World, object_at, set_object, with_changed, set_field, stored, write_field}
+use Rattle.class_machine.specs.World.{World, object_at, set_object, with_changed, with_field, stored, written as write_in, write_field}
 use Rattle.class_machine.specs.Effect.{PutField}
 use Rattle.class_machine.specs.Answers as answers
 use Rattle.class_machine.specs.Answers.{declared}
@@ -54,18 +54,18 @@ place_below (f ∷ fs) r p e = by (λ q k. place_below fs r q k) (same_member f 
   by rest false k = later (field_place fs r) rest k
 
 -- the field that is written is the one at its place
-set_zip : (fs : List Reference) (hs : List Held) (r : Reference) (p : ℕ) (h : Held) → field_place fs r ≡ Some p → p < length hs → set_field (zip fs hs) r h ≡ zip fs (slice_set hs p h)
+set_zip : (fs : List Reference) (hs : List Held) (r : Reference) (p : ℕ) (h : Held) → field_place fs r ≡ Some p → p < length hs → with_field (zip fs hs) r h ≡ zip fs (slice_set hs p h)
 set_zip [] hs r p h e below = absurd (none-some p e)
 set_zip (f ∷ fs) [] r p h e below = absurd (omega arith)
 set_zip (f ∷ fs) (g ∷ hs) r p h e below = by (λ q k less. set_zip fs hs r q h k less) (same_member f r) refl e where
-  later : (o : Option ℕ) → ((q : ℕ) → o ≡ Some q → q < length hs → set_field (zip fs hs) r h ≡ zip fs (slice_set hs q h)) → option_map suc o ≡ Some p → (f, g) ∷ set_field (zip fs hs) r h ≡ zip (f ∷ fs) (slice_set (g ∷ hs) p h)
+  later : (o : Option ℕ) → ((q : ℕ) → o ≡ Some q → q < length hs → with_field (zip fs hs) r h ≡ zip fs (slice_set hs q h)) → option_map suc o ≡ Some p → (f, g) ∷ with_field (zip fs hs) r h ≡ zip (f ∷ fs) (slice_set (g ∷ hs) p h)
   later None rest k = absurd (none-some p k)
   later (Some q) rest k =
       let same = same_Some (suc q) p k in
       ap (λ l. (f, g) ∷ l) (rest q refl (omega arith)) ∙ ap (λ i. zip (f ∷ fs) (slice_set (g ∷ hs) i h)) same
 
-  by : ((q : ℕ) → field_place fs r ≡ Some q → q < length hs → set_field (zip fs hs) r h ≡ zip fs (slice_set hs q h)) → (hit : Bool) → same_member f r ≡ hit → (if hit then Some 0 else option_map suc (field_place fs r)) ≡ Some p
-      → (if hit then (r, h) ∷ zip fs hs else (f, g) ∷ set_field (zip fs hs) r h) ≡ zip (f ∷ fs) (slice_set (g ∷ hs) p h)
+  by : ((q : ℕ) → field_place fs r ≡ Some q → q < length hs → with_field (zip fs hs) r h ≡ zip fs (slice_set hs q h)) → (hit : Bool) → same_member f r ≡ hit → (if hit then Some 0 else option_map suc (field_place fs r)) ≡ Some p
+      → (if hit then (r, h) ∷ zip fs hs else (f, g) ∷ with_field (zip fs hs) r h) ≡ zip (f ∷ fs) (slice_set (g ∷ hs) p h)
   by rest true is k = ap (λ x. (x, h) ∷ zip fs hs) (sym (member_is f r is)) ∙ ap (λ i. zip (f ∷ fs) (slice_set (g ∷ hs) i h)) (same_Some 0 p k)
   by rest false is k = later (field_place fs r) rest k
 
@@ -112,12 +112,13 @@ module _ (s : Setting) (things : Things) (others : Others) (w : World) (distinct
       let placed : field_place fs r ≡ Some index = ap (λ (o : Option Name). field_place (s.classes.fields (class_of (name_in s.heads o))) r) (sym there) ∙ place in
       let found = made_found s things others w at (Class (record { 0 = class })) k (Values vs) distinct shares there holds in
       let more = length-map vs f in
-      let same : stored (object_at w (machine_name s.heads name)) r new_held ≡ object_of s.heads s.classes.fields things.names (Class (record { 0 = class })) c =
-      ap (λ (o : Option worlds.Object). stored o r new_held) found
-      ∙ ap worlds.Instance (set_zip fs (map f vs) r index new_held placed (omega arith) ∙ ap (zip fs) (sym (map_set f vs index (kept_value e v) ∙ ap (slice_set (map f vs) index) same_held))) in
+      let old = object_of s.heads s.classes.fields things.names (Class (record { 0 = class })) (Values vs) in
+      let same : stored old r new_held ≡ object_of s.heads s.classes.fields things.names (Class (record { 0 = class })) c =
+      ap worlds.Instance (set_zip fs (map f vs) r index new_held placed (omega arith) ∙ ap (zip fs) (sym (map_set f vs index (kept_value e v) ∙ ap (slice_set (map f vs) index) same_held))) in
       subst (λ (a : machine.Name). Shares s (changed things at c) others (write_field w a r new_held)) (sym (ap (name_in s.heads) there))
+      (subst (λ (o : Option worlds.Object). Shares s (changed things at c) others (write_in w (machine_name s.heads name) r new_held o)) (sym found)
       (subst (λ (o : worlds.Object). Shares s (changed things at c) others (record w { heap = with_changed w.heap (machine_name s.heads name) o })) (sym same)
-      (store_shares s things others w at (Class (record { 0 = class })) k c distinct shares there (all_settled (Values vs) holds)))
+      (store_shares s things others w at (Class (record { 0 = class })) k c distinct shares there (all_settled (Values vs) holds))))
 
   by_name : (n : Name) (c : Content) → slice_get things.names at ≡ Some n → slice_get things.contents at ≡ Some c → index < length (fields_in (Some n) (Some c)) → Written c
   by_name (Made (Class class) k) (Values vs) there holds below = in_object class.0 k vs there holds below

@@ -116,11 +116,20 @@ module _ {P Q : Type 0} (f at : P → Q) (code : Code P) (code' : Code Q) (cs cs
     given_back_kept said super None c w w' a = completed_kept said super c w w' a
     given_back_kept said super (Some h) c w w' a = given_at said super h c w w' a (has_room x.room (held_width h) c.operands) refl
 
+    on_given : (h : Held) (c : Content P) (w w' : World) → Alike w w' → (b : Bool) → has_room x.room (held_width h) c.operands ≡ b →
+        TK g (if b then Turn.stays code cs (code.next x.place) (pushed_on (Plain h) c) w else stops events.Broken)
+        (if has_room y.room (held_width h) (gc c).operands then Turn.stays code' cs' (code'.next y.place) (pushed_on (Plain h) (gc c)) w' else stops events.Broken)
+    on_given h c w w' a true e =
+        let heavy = weight-rs f g.locals c.operands in
+        let test : has_room y.room (held_width h) (gc c).operands ≡ true = grind (arith, nat_tests) in
+        rw test (next_kept (pushed_on (Plain h) c) w w' a)
+    on_given h c w w' a false e = tt
+
     target_kept : (i : ℕ) (c : Content P) (w w' : World) → Alike w w' → TK g (Turn.stays code cs (code.target x.place i) c w) (Turn.stays code' cs' (code'.target y.place i) (gc c) w')
     target_kept i c w w' a = rw (stands.target i) (stays_kept g (code.target x.place i) c w w' a)
 
     replied_kept : (c : Content P) (w w' : World) → Alike w w' → (r r' : Reply) → ReplyKept Alike r r' → TK g (Turn.replied code cs x c w r) (Turn.replied code' cs' y (gc c) w' r')
-    replied_kept c w w' a (Gives v u) r' k = rw k.2 (next_kept (pushed_on (Plain v) c) u k.0 k.1)
+    replied_kept c w w' a (Gives v u) r' k = rw k.2 (on_given v c u k.0 k.1 (has_room x.room (held_width v) c.operands) refl)
     replied_kept c w w' a (Done u) r' k = rw k.2 (next_kept c u k.0 k.1)
     replied_kept c w w' a (Faults fault) r' k = rw k (fails_kept g fault c w w' a)
     replied_kept c w w' a Refuses r' k = tt

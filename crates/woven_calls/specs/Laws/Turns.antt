@@ -97,22 +97,23 @@ module _ {P : Type 0} (code : Code P) (cs : Classes) (knows : Knows cs) where
         go true = refl
         go false = refl
 
-    asked : (c : Content P) → w.statics ≡ [] → resolved code cs (at c) w (Ask (GetStatic output_field) c) ≡ stays code cs (code.next p) (pushed_on (operand TheOutput) c) (begin cs w system_class)
-    asked c none =
+    asked : (c : Content P) → w.statics ≡ [] → has_room n 1 c.operands ≡ true → resolved code cs (at c) w (Ask (GetStatic output_field) c) ≡ stays code cs (code.next p) (pushed_on (operand TheOutput) c) (begin cs w system_class)
+    asked c none room =
         let e : Effect P = Ask (GetStatic output_field) c in
         let w1 = begin cs w system_class in
         ap (λ (o : Option Field). linked code cs (at c) w e (static_field code cs output_field o)) knows.field
         ∙ ap (initialised code cs (at c) w e system_class) (pending_none w system_class)
         ∙ ap (λ (o : Option Field). replied code cs (at c) c w1 (get_static cs w1 (declared_name output_field o))) knows.field
         ∙ ap₂ (λ statics held. replied code cs (at c) c w1 (of_type output_field.member.descriptor (unwrap_or (find_field statics output_field) held) w1)) none knows.initial
+        ∙ ap (λ (b : Bool). if b then stays code cs (code.next p) (pushed_on (operand TheOutput) c) w1 else stops Broken) room
 
     pub output_turn : (c : Content P) → w.statics ≡ [] → code.line p ≡ Some (meaning Output) →
         turn code cs (at c) w ≡ (if has_room n 1 c.operands then stays code cs (code.next p) (pushed_on (operand TheOutput) c) (begin cs w system_class) else stops Broken)
-    output_turn c none e = turn_at c Output e ∙ go (has_room n 1 c.operands)
+    output_turn c none e = turn_at c Output e ∙ go (has_room n 1 c.operands) refl
       where
-        go : (b : Bool) → resolved code cs (at c) w (if b then Ask (GetStatic output_field) c else effects.Broken) ≡ (if b then stays code cs (code.next p) (pushed_on (operand TheOutput) c) (begin cs w system_class) else stops Broken)
-        go true = asked c none
-        go false = refl
+        go : (b : Bool) → has_room n 1 c.operands ≡ b → resolved code cs (at c) w (if b then Ask (GetStatic output_field) c else effects.Broken) ≡ (if b then stays code cs (code.next p) (pushed_on (operand TheOutput) c) (begin cs w system_class) else stops Broken)
+        go true room = asked c none room
+        go false room = refl
 
     -- what println of a text makes of an object and an argument
     abbrev pub printed_turn : Known → Known → Content P → Turn P
