@@ -149,7 +149,10 @@ fn behind(bytes: &[u8], size: usize) -> &[u8]
 }
 
 /// The units of a text in modified UTF-8 (JVMS 4.4.7).
-pub(crate) fn units_of(alloc: Global, bytes: &[u8]) -> Result<Vec<u16>, AllocError>
+///
+/// # Errors
+/// Where there is no memory.
+pub fn units_of(alloc: Global, bytes: &[u8]) -> Result<Vec<u16>, AllocError>
     ensures { IfOk result (λ units. units.items ≡ units_of bytes.now) }
 {
     let mut units = Vec::new(alloc);

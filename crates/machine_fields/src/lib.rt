@@ -14,6 +14,7 @@ mod objects;
 mod positions;
 mod types;
 
+pub use constants::units_of;
 pub use initial::initial_value;
 pub use laws::{
     fields_apart, first_field_named, first_field_numbered, found_is_field, found_is_first,
