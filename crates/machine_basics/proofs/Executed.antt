@@ -1,9 +1,9 @@
 -- What becomes of the running frame by the effect that an instruction had on it is what executing the instruction makes of it.
-use Rattle.std.specs.Prelude.{◌≡◌, ℕ, ◌+◌, ◌≤◌, Bool, true, false, if◌then◌else◌, is_some, List, [], ◌∷◌, ◌++◌, map, reverse, length, Option, None, refl}
+use Rattle.std.specs.Prelude.{◌≡◌, ℕ, Bool, true, false, if◌then◌else◌, is_some, List, [], ◌∷◌, ◌++◌, map, reverse, length, Option, None, refl}
 use Rattle.std.specs.List.{AllByRecursion}
 use Rattle.std.specs.Option.{option_map}
 use Rattle.std.proofs.Common.{sym, ◌∙◌, ap, subst, arith}
-use Rattle.std.proofs.lemmas.Bool.{false≢true, le-leb}
+use Rattle.std.proofs.lemmas.Bool.{false≢true}
 use Rattle.class_world.specs.Tables.{Known}
 use Rattle.class_machine.specs.declared.meaning.Basic.{Basic}
 use Rattle.class_machine.specs.Answers as answers
@@ -14,7 +14,7 @@ use Rattle.class_machine.specs.Effect.{basic_effect}
 use Rattle.class_machine.specs.Events as events
 use Rattle.class_machine.specs.Operations.{Do}
 use Rattle.class_machine.specs.Values as machine
-use Rattle.class_machine.specs.Values.{has_room, pushed_on}
+use Rattle.class_machine.specs.Values.{held_width, has_room, pushed_on}
 use Rattle.class_machine.specs.World.{World}
 use Rattle.class_machine.specs.Turn as turns
 use Rattle.class_machine.specs.Turn.{resolved}
@@ -43,7 +43,7 @@ use Rattle.machine_frames.specs.declared.effect.Request.{Request}
 use Rattle.machine_frames.specs.declared.effect.Request.TheVariants.{MakeArray, ArrayLoad, ArrayStore, ArrayLength, EnterMonitor, LeaveMonitor}
 use Rattle.machine_frames.specs.Naming.{Faithful}
 use Rattle.machine_frames.specs.Effects.{effect_in, request_in, operands_of, locals_of, setting, Does, Keeps, raises, is_effect_within}
-use Rattle.machine_frames.specs.Undoing.{IsTaken, Undoes}
+use Rattle.machine_frames.specs.Undoing.{Undoes}
 use Rattle.machine_steps.specs.declared.step.Step.{Step}
 use Rattle.machine_steps.specs.declared.step.Step.TheVariants.{Ended}
 use Rattle.machine_steps.specs.Executing.{executes}
@@ -54,8 +54,7 @@ use Rattle.machine_steps.specs.Programs.{Machine, IsMachine}
 use Rattle.machine_steps.specs.Running.{seen_by, waiting, all_last, Turned}
 use Rattle.machine_steps.specs.Runs.{Runs}
 use Rattle.machine_basics.specs.Turns.{takes}
-use Rattle.machine_basics.specs.Performed.{is_return, asks_anything, IsPerformed}
-use Rattle.machine_basics.specs.Replied.{HasRoom}
+use Rattle.machine_basics.specs.Performed.{is_return, IsPerformed}
 use Rattle.machine_basics.proofs.Returnless.{Stays, basic_stays, unconcerned}
 
 -- ---- what is known where the state stands for the machine's
@@ -84,43 +83,6 @@ pub no_frame_breaks : (k : Known) (old new : MachineState) (step : Step) (turnin
 no_frame_breaks k old new step turning none m left t f below is runs same =
     absurd (let e : [] ≡ f ∷ below = sym (runs.frames.frames ∙ ap (λ (l : List Frame). map (seen_by m old.heap.names) (reverse l)) (no_items old.frames.items none)) ∙ same in cc)
 
--- ---- room for what the frame gave to ask
-
-slots_positive : (wide : Bool) → 1 ≤ stacks.slots_of wide
-slots_positive true = omega arith
-slots_positive false = omega arith
-
-one_at_least : (v : Value) (vs us : List Value) → 1 + weight us ≤ weight ((v ∷ vs) ++ us)
-one_at_least v [] us = let w = slots_positive (stacks.is_wide v) in omega arith
-one_at_least v (u ∷ vs) us = let more = one_at_least u vs us in omega arith
-
-room_of : (mid : MachineState) (rest : List Frame) (f g : Frame) (v : Value) (vs : List Value) → mid.frames.items ≡ rest ++ g ∷ [] → IsTaken f (v ∷ vs) g → HasRoom mid 1
-room_of mid rest f g v vs top taken = record {
-  rest = rest;
-  frame = g;
-  top = top;
-  fits = le-leb (1 + weight g.operands.values) g.operands.room (
-      let some = one_at_least v vs g.operands.values in let fits = taken.taken.fits (omega arith) in let same = ap weight taken.taken.values in let room = taken.taken.room in omega arith
-      );
-}
-
-pub room_after : (old mid : MachineState) (basic : Basic) (e : Effect) → IsPerformed old mid basic e → asks_anything e ≡ true → HasRoom mid 1
-room_after old mid basic (effects.Ask (MakeArray e size)) performed asks = room_of mid performed.rest performed.before performed.after _ _ performed.turned.after performed.undone.undoes
-room_after old mid basic (effects.Ask (ArrayLoad e a i)) performed asks = room_of mid performed.rest performed.before performed.after _ _ performed.turned.after performed.undone.undoes
-room_after old mid basic (effects.Ask (ArrayStore e a i v)) performed asks = room_of mid performed.rest performed.before performed.after _ _ performed.turned.after performed.undone.undoes
-room_after old mid basic (effects.Ask (ArrayLength a)) performed asks = room_of mid performed.rest performed.before performed.after _ _ performed.turned.after performed.undone.undoes
-room_after old mid basic (effects.Ask (EnterMonitor a)) performed asks = room_of mid performed.rest performed.before performed.after _ _ performed.turned.after performed.undone.undoes
-room_after old mid basic (effects.Ask (LeaveMonitor a)) performed asks = room_of mid performed.rest performed.before performed.after _ _ performed.turned.after performed.undone.undoes
-room_after old mid basic effects.On performed asks = absurd (false≢true asks)
-room_after old mid basic (effects.Jump i) performed asks = absurd (false≢true asks)
-room_after old mid basic (effects.Enter i) performed asks = absurd (false≢true asks)
-room_after old mid basic (effects.Back pc) performed asks = absurd (false≢true asks)
-room_after old mid basic (effects.Leave result) performed asks = absurd (false≢true asks)
-room_after old mid basic (effects.Fail fault) performed asks = absurd (false≢true asks)
-room_after old mid basic (effects.Throw a) performed asks = absurd (false≢true asks)
-room_after old mid basic (effects.Unmodelled op) performed asks = absurd (false≢true asks)
-room_after old mid basic effects.Broken performed asks = absurd (false≢true asks)
-
 -- ---- the frame that changed
 
 -- the frame with other operands and locals
@@ -148,6 +110,12 @@ module _ (k : Known) (m : Machine) (old mid : MachineState) (t : State Place) (f
   abbrev is_now : turns.Frame Place
   is_now = seen_by m old.heap.names (changed_to f vs ls)
 
+  abbrev now_operands : List (machine.Value Place)
+  now_operands = operands_of (naming_of m old) (changed_to f vs ls)
+
+  abbrev now_locals : List (machine.Local Place)
+  now_locals = locals_of (naming_of m old) (changed_to f vs ls)
+
   -- the state with the changed frame
   abbrev then_state : State Place
   then_state = record t { frames = is_now ∷ below }
@@ -163,17 +131,16 @@ module _ (k : Known) (m : Machine) (old mid : MachineState) (t : State Place) (f
   given_same true p c w = refl
   given_same false p c w = refl
 
+  roomed_same : (room b : Bool) (p : Place) (c : machine.Content Place) (w : World)
+      → step_of is_now (if room then (if b then turns.Stays p c w else turns.stops events.Broken) else turns.stops events.Broken) ≡ step_of was (if room then (if b then turns.Stays p c w else turns.stops events.Broken) else turns.stops events.Broken)
+  roomed_same true b p c w = given_same b p c w
+  roomed_same false b p c w = refl
+
   replied_same : (r : answers.Reply) → step_of is_now (turns.replied (class_code m.files) m.setting.classes is_now is_now.content t.world r) ≡ step_of was (turns.replied (class_code m.files) m.setting.classes was is_now.content t.world r)
-  replied_same (answers.Gives v w) = given_same (is_some ((class_code m.files).line ((class_code m.files).next was.place))) ((class_code m.files).next was.place) (pushed_on (machine.Plain v) is_now.content) w
+  replied_same (answers.Gives v w) = roomed_same (has_room f.operands.room (held_width v) now_operands) (is_some ((class_code m.files).line ((class_code m.files).next was.place))) ((class_code m.files).next was.place) (pushed_on (machine.Plain v) is_now.content) w
   replied_same (answers.Done w) = given_same (is_some ((class_code m.files).line ((class_code m.files).next was.place))) ((class_code m.files).next was.place) is_now.content w
   replied_same (answers.Faults fault) = refl
   replied_same answers.Refuses = refl
-
-  abbrev now_operands : List (machine.Value Place)
-  now_operands = operands_of (naming_of m old) (changed_to f vs ls)
-
-  abbrev now_locals : List (machine.Local Place)
-  now_locals = locals_of (naming_of m old) (changed_to f vs ls)
 
   abbrev resolves : Effect → turns.Turn Place
   resolves e = resolved (class_code m.files) m.setting.classes was t.world (effect_in (naming_of m old) f.method.0 e now_operands now_locals)

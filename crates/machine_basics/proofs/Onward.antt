@@ -1,8 +1,10 @@
 -- On at the targets of an instruction.
 use Rattle.std.specs.Prelude.{◌≡◌, ℕ, ◌+◌, ◌<◌, nat_le, Bool, true, false, if◌then◌else◌, is_some, List, [], ◌∷◌, ◌++◌, map, reverse, Some, None, refl}
-use Rattle.std.proofs.Common.{sym, ap, ◌∙◌, subst}
+use Rattle.std.proofs.Common.{sym, ap, ◌∙◌, subst, arith}
 use Rattle.std.proofs.lemmas.Bool.{lt-leb}
 use Rattle.std.specs.Option.{option_and_then}
+use Rattle.class_file.specs.Pool.{Reference}
+use Rattle.class_heads.specs.declared.types.ClassHead.{ClassHead}
 use Rattle.class_world.specs.Tables.{Known}
 use Rattle.class_machine.specs.ClassFiles.{Place, place_in, line_at, next_pc, target_pc, method_code, class_code}
 use Rattle.class_machine.specs.Events as events
@@ -15,11 +17,14 @@ use Rattle.machine_code.specs.declared.method_code.MethodCode as lent
 use Rattle.machine_code.specs.Views.{code_seen}
 use Rattle.machine_values.specs.declared.frames.Frame.{Frame}
 use Rattle.machine_values.specs.declared.names.Name.{Name}
-use Rattle.machine_values.specs.declared.values.Value.TheVariants.{ReturnAddress}
+use Rattle.machine_values.specs.declared.values.Value.{Value}
+use Rattle.machine_values.specs.declared.values.Value.TheVariants.{Int, Long, Float, Double, Null, Reference as Pointer, Token, ReturnAddress}
 use Rattle.machine_values.specs.declared.observed.Ending.TheVariants.{Broken}
 use Rattle.machine_values.specs.declared.script.Answer.{Answer}
 use Rattle.machine_values.specs.declared.state.MachineState.{MachineState}
+use Rattle.machine_values.specs.Stacks as stacks
 use Rattle.machine_values.specs.Stacks.{weight}
+use Rattle.machine_values.specs.States.{value_in}
 use Rattle.machine_steps.specs.declared.step.Step.{Step}
 use Rattle.machine_steps.specs.declared.step.Step.TheVariants.{Ended}
 use Rattle.machine_steps.specs.Giving.{with_values}
@@ -29,8 +34,23 @@ use Rattle.machine_steps.specs.Programs.{Machine, IsMachine}
 use Rattle.machine_steps.specs.Running.{seen_by, waiting, first_same, frames_are, moves_at, HasRunningCode, Turned}
 use Rattle.machine_steps.specs.Runs.{Runs, Stepped}
 use Rattle.machine_basics.specs.Turns.{jumps, enters}
-use Rattle.machine_basics.specs.Replied.{HasRoom}
-use Rattle.machine_basics.proofs.Answered.{room_seen, weight_seen}
+
+-- ---- room
+
+module _ (heads : List ClassHead) (methods : ℕ → Reference) (names : List Name) (method : ℕ) where
+  width_seen : (v : Value) → machine.width (value_in heads methods names method v) ≡ stacks.width v
+  width_seen (Int n) = refl
+  width_seen (Long n) = refl
+  width_seen (Float bits) = refl
+  width_seen (Double bits) = refl
+  width_seen Null = refl
+  width_seen (Pointer at) = refl
+  width_seen (Token class number) = refl
+  width_seen (ReturnAddress pc) = refl
+
+  weight_seen : (vs : List Value) → machine.weight (map (value_in heads methods names method) vs) ≡ weight vs
+  weight_seen [] = refl
+  weight_seen (v ∷ vs) = let a = width_seen v in let b = weight_seen vs in omega arith
 
 -- ---- where the method has no code
 
@@ -97,7 +117,7 @@ module _ (k : Known) (old : MachineState) (rest : List Frame) (g : Frame) (code 
     same_frame m t true p c below = refl
     same_frame m t false p c below = refl
 
-    pub enters_there : (mid new : MachineState) (step : Step) → Turned old mid rest g with_address → HasRoom old 1 → Moves k mid new step (goes_on to) → Moves k old new step (enters i)
+    pub enters_there : (mid new : MachineState) (step : Step) → Turned old mid rest g with_address → nat_le (1 + weight g.operands.values) g.operands.room ≡ true → Moves k mid new step (goes_on to) → Moves k old new step (enters i)
     enters_there mid new step turned room moves =
         moves_turned k old mid new step (goes_on to) (enters i) rest g with_address turned (λ w. record { operands = (refl, w.operands); locals = w.locals; monitor = w.monitor; purpose = w.purpose }) moves
         (λ m left t is runs.
@@ -110,7 +130,7 @@ module _ (k : Known) (old : MachineState) (rest : List Frame) (g : Frame) (code 
         ∙ same_frame m t (is_some ((class_code m.files).line place)) place (pushed_on (machine.ReturnAddress ((class_code m.files).next f.place)) f.content) below
         ∙ sym (ap (λ (b : Bool). moved (class_code m.files) m.setting.classes t.due
         (if b then turns.stays (class_code m.files) m.setting.classes place (pushed_on (machine.ReturnAddress ((class_code m.files).next f.place)) f.content) t.world else turns.stops events.Broken) t.world f below)
-        (room_seen old 1 room m left t f below runs (frames_are m old left t rest g runs split))))
+        (ap (λ n. nat_le (1 + n) g.operands.room) (weight_seen m.setting.heads m.methods old.heap.names g.method.0 g.operands.values) ∙ room)))
 
 -- ---- where there is no room for the return address
 

@@ -6,7 +6,6 @@ use Rattle.machine_values.specs.declared.frames.Frame.{Frame}
 use Rattle.machine_values.specs.declared.state.MachineState.{MachineState}
 use Rattle.machine_values.specs.States.{IsFrameWithin}
 use Rattle.machine_frames.specs.declared.effect.Effect.{Effect}
-use Rattle.machine_frames.specs.declared.effect.Effect.TheVariants.{Ask}
 use Rattle.machine_frames.specs.Naming.{Naming, Faithful}
 use Rattle.machine_frames.specs.Effects.{Does, Keeps, setting, is_effect_within}
 use Rattle.machine_frames.specs.Undoing.{Undoes, is_plain}
@@ -16,11 +15,6 @@ use Rattle.machine_steps.specs.Running.{Turned}
 abbrev pub is_return : Basic → Bool
 is_return (Basic.Return k) = true
 is_return _ = false
-
--- the heap or the monitors are asked
-abbrev pub asks_anything : Effect → Bool
-asks_anything (Ask request) = true
-asks_anything _ = false
 
 -- The running frame became another one, as the instruction has it, and nothing else changed.
 pub record IsPerformed (old new : MachineState) (basic : Basic) (e : Effect) : Type 0 where

@@ -1,5 +1,5 @@
 -- What the heap and the monitors answer to the running frame of a state.
-use Rattle.std.specs.Prelude.{◌≡◌, ℕ, ◌+◌, Bool, true, false, nat_le, List, [], ◌∷◌, ◌++◌, Option, Some, None}
+use Rattle.std.specs.Prelude.{◌≡◌, ℕ, Bool, true, false, Option, Some, None}
 use Rattle.aj_names.specs.declared.types.Base.{Base}
 use Rattle.aj_names.specs.Descriptors.{base_spelling}
 use Rattle.class_world.specs.Tables.{Known}
@@ -7,9 +7,7 @@ use Rattle.class_machine.specs.declared.kinds.Element.{Element}
 use Rattle.class_machine.specs.Answers.{answer}
 use Rattle.class_machine.specs.Descriptors.{primitive}
 use Rattle.class_machine.specs.World.{World}
-use Rattle.machine_values.specs.declared.frames.Frame.{Frame}
 use Rattle.machine_values.specs.declared.state.MachineState.{MachineState}
-use Rattle.machine_values.specs.Stacks.{width, weight}
 use Rattle.machine_values.specs.Standing.{Settled}
 use Rattle.machine_requests.specs.declared.reply.Reply.{Reply}
 use Rattle.machine_requests.specs.declared.reply.Reply.TheVariants.{Gives, Faults}
@@ -31,18 +29,6 @@ IsSettledReply count reply = Unit {0}
 abbrev pub is_fault : Reply → Bool
 is_fault (Faults fault) = true
 is_fault reply = false
-
--- the operands of the running frame have room for so many slots
-pub record HasRoom (state : MachineState) (slots : ℕ) : Type 0 where
-  pub rest : List Frame
-  pub frame : Frame
-  pub top : state.frames.items ≡ rest ++ frame ∷ []
-  pub fits : nat_le (slots + weight frame.operands.values) frame.operands.room ≡ true
-
--- there is room for what is given
-abbrev pub FitsReply : MachineState → Reply → Type 0
-FitsReply state (Gives v) = HasRoom state (width v)
-FitsReply state reply = Unit {0}
 
 -- The reply stands for the machine's, whatever world of the machine the heap and the tables stood for; nothing else changed.
 pub record IsReply (k : Known) (old : MachineState) (request : Request) (new : MachineState) (reply : Reply) : Type 0 where

@@ -28,9 +28,8 @@ fn is_return(basic: &Basic) -> bool
 /// nothing here (JVMS 6).
 ///
 /// # Errors
-/// Where there is no memory; the state stands for what it stood for then. What no run comes to is
-/// refused so too: an array of a type that is not primitive by `newarray`, and an element that is wider
-/// than the elements of its array, for which the operands have no room.
+/// Where there is no memory; the state stands for what it stood for then. An array of a type that is
+/// not primitive, which no `newarray` of a class file names, is refused so too.
 pub fn step_basic(
     state: &mut MachineState,
     world: &World,

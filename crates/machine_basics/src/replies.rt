@@ -2,9 +2,7 @@
 
 ghost use Rattle.std.specs.Prelude.{◌≡◌, Some, true, false, length, IfOk, OnErr};
 ghost use Rattle.machine_values.specs.Standing.{Settled};
-ghost use Rattle.machine_values.specs.States.{is_known_object};
 ghost use Rattle.machine_frames.specs.Effects.{is_request_within};
-ghost use Rattle.machine_frames.specs.declared.effect.Request.TheVariants as request;
 ghost use Rattle.machine_requests.specs.declared.reply.Reply.TheVariants.{Refuses};
 ghost use Rattle.machine_values.specs.declared.observed.Ending.TheVariants.{Broken};
 ghost use Rattle.machine_steps.specs.declared.step.Step.TheVariants.{Ended};
@@ -14,18 +12,17 @@ ghost use Rattle.machine_steps.specs.Moves.{Moves};
 ghost use Rattle.machine_invocations.specs.Keeping.{Keeps};
 ghost use Rattle.machine_invocations.specs.Returning.{takes_back};
 ghost use Rattle.machine_basics.specs.Turns.{asks, follows};
-ghost use Rattle.machine_basics.specs.Replied.{HasRoom, FitsReply, IsReply, IsSettledReply, is_fault};
+ghost use Rattle.machine_basics.specs.Replied.{IsReply, IsSettledReply, is_fault};
 
 use crate::asking;
 use crate::going::go_next;
 use crate::performing::is_settled;
-use class_machine::kinds::Element;
 use class_world::World;
 use machine_frames::Request;
 use machine_invocations::take_back;
 use machine_requests::Reply;
 use machine_steps::{Step, fail};
-use machine_values::{Ending, MachineState, Ref, Value};
+use machine_values::{Ending, MachineState, Value};
 use std::alloc::AllocError;
 
 // The running frame goes on behind its instruction, with the value on top.
@@ -59,42 +56,6 @@ fn follow(state: &mut MachineState, world: &World, reply: Reply) -> Result<Step,
     }
 }
 
-// Whether the running frame's operands have room for what is given, if a value is.
-fn has_room(state: &MachineState, reply: Reply) -> bool
-    ensures { result ≡ true → FitsReply state.now reply }
-{
-    let Reply::Gives(value) = reply else {
-        return true;
-    };
-    match state.frames.last() {
-        Some(frame) => frame.operands.has_room(value.width()),
-        None => false,
-    }
-}
-
-// Asks for an element. What no array comes to hold, an element wider than the array's elements, has no
-// room in the operands' memory.
-fn ask_load(
-    state: &mut MachineState,
-    world: &World,
-    element: Element,
-    array: Option<Ref>,
-    index: i32,
-) -> Result<Step, AllocError>
-    requires runnable { IsRunnable world.now }
-    requires formed { IsFormed world.now state.old }
-    requires known { is_known_object (length state.old.heap.names) array ≡ true }
-    ensures formed { IsFormed world.now state.new }
-    ensures moves { IfOk result (λ step. Moves world.now state.old state.new step (asks state.old (request.ArrayLoad element array index))) }
-    ensures err { OnErr result (state.new ≡ state.old) }
-{
-    let reply = asking::load(state, element, array, index);
-    if !has_room(state, reply) {
-        return Err(AllocError);
-    }
-    follow(state, world, reply)
-}
-
 // What the heap or the monitors answer.
 fn reply_to(state: &mut MachineState, world: &World, request: &Request) -> Result<Reply, AllocError>
     requires runnable { IsRunnable world.now }
@@ -116,8 +77,8 @@ fn reply_to(state: &mut MachineState, world: &World, request: &Request) -> Resul
     }
 }
 
-/// The running frame asks the heap or the monitors, and goes on by the reply. There is room for an
-/// operand of one slot, since the frame asks with one at least.
+/// The running frame asks the heap or the monitors, and goes on by the reply. Where there is no room for
+/// what is given the run is Broken.
 ///
 /// # Errors
 /// Where there is no memory; the state stands for what it stood for then.
@@ -129,14 +90,10 @@ pub(crate) fn ask(
     requires runnable { IsRunnable world.now }
     requires formed { IsFormed world.now state.old }
     requires known { is_request_within (length state.old.heap.names) request ≡ true }
-    requires room { HasRoom state.old 1 }
     ensures formed { IsFormed world.now state.new }
     ensures moves { IfOk result (λ step. Moves world.now state.old state.new step (asks state.old request)) }
     ensures err { OnErr result (Keeps world.now state.old state.new) }
 {
-    if let Request::ArrayLoad(element, array, index) = request {
-        return ask_load(state, world, element, array, index);
-    }
     let reply = reply_to(state, world, &request)?;
     follow(state, world, reply)
 }

@@ -10,8 +10,7 @@ ghost use Rattle.machine_steps.specs.Runs.{IsFormed};
 ghost use Rattle.machine_steps.specs.Moves.{Moves};
 ghost use Rattle.machine_invocations.specs.Keeping.{Keeps};
 ghost use Rattle.machine_basics.specs.Turns.{takes};
-ghost use Rattle.machine_basics.specs.Performed.{IsPerformed, asks_anything};
-ghost use Rattle.machine_basics.specs.Replied.{HasRoom};
+ghost use Rattle.machine_basics.specs.Performed.{IsPerformed};
 
 use crate::going::{enter, go_next, jump};
 use crate::performing::restore_running;
@@ -28,7 +27,6 @@ fn take(state: &mut MachineState, world: &World, effect: Effect) -> Result<Step,
     requires runnable { IsRunnable world.now }
     requires formed { IsFormed world.now state.old }
     requires known { is_effect_within (length state.old.heap.names) effect ≡ true }
-    requires room { asks_anything effect ≡ true → HasRoom state.old 1 }
     ensures formed { IsFormed world.now state.new }
     ensures moves { IfOk result (λ step. Moves world.now state.old state.new step (takes state.old effect)) }
     ensures plain { OnErr result (is_plain effect ≡ false) }
@@ -61,7 +59,6 @@ pub(crate) fn take_or_restore(
     requires formed { IsFormed world.now state.old }
     requires some { 0 < length state.old.frames.items }
     requires known { is_effect_within (length state.old.heap.names) effect ≡ true }
-    requires room { asks_anything effect ≡ true → HasRoom state.old 1 }
     ensures formed { IfOk result (λ step. IsFormed world.now state.new) }
     ensures moves { IfOk result (λ step. Moves world.now state.old state.new step (takes state.old effect)) }
     ensures err { OnErr result ((before : StateOf) (basic : BasicOf) → IsPerformed before state.old basic effect → Keeps world.now before state.new) }

@@ -5,7 +5,7 @@ use Rattle.class_machine.specs.Operations.{Do}
 use Rattle.machine_values.specs.declared.observed.Ending.TheVariants.{Broken}
 use Rattle.machine_steps.specs.declared.step.Step.TheVariants.{Ended}
 use Rattle.machine_steps.specs.Executing.{executes}
-use Rattle.machine_basics.proofs.Executed.{executed_moves, unknown_breaks, room_after, no_frame_breaks}
+use Rattle.machine_basics.proofs.Executed.{executed_moves, unknown_breaks, no_frame_breaks}
 use Rattle.machine_basics.proofs.Kept.{if_err}
 use Rattle.machine_basics.proofs.Restored.{if_ok, formed_either, formed_performed, frame_runs}
 use Rattle.machine_basics.proofs.basics.step_basic.Goals as goal
@@ -33,9 +33,6 @@ take_or_restore-requires-clause-some c = frame_runs c.args.state.now c.perform_r
 
 pub take_or_restore-requires-clause-known : goal.take_or_restore-requires-clause-known
 take_or_restore-requires-clause-known c = sym (ap (λ n. is_effect_within n c.perform_running-effect.result) c.count.ensures.count) ∙ sym c.is_within.ensures ∙ c.if-not-is_within.false
-
-pub take_or_restore-requires-clause-room : goal.take_or_restore-requires-clause-room
-take_or_restore-requires-clause-room c = λ asks. room_after c.args.state.now c.perform_running-effect.new.state c.args.basic.now c.perform_running-effect.result c.perform_running-effect.ensures asks
 
 pub returns-clause-formed : goal.returns-clause-formed
 returns-clause-formed c =

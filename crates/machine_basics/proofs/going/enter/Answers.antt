@@ -30,7 +30,7 @@ returns-clause-moves c =
     enters_there c.args.world.now old (take top old.frames.items) g c.in-Some.code split c.in-Some.ensures.code c.args.number c.target-target.result c.next_place-next.result c.target-target.ensures c.next_place-next.ensures
     mid c.go_on.new.state c.go_on.result
     (turned_at old mid top g (with_values g (ReturnAddress c.next_place-next.result ∷ g.operands.values)) (omega (arith, old.frames.ok.0, some)) there refl (ap (λ (q : Frame). slice_set old.frames.items top q) same))
-    (record { rest = take top old.frames.items; frame = g; top = split; fits = le-leb (1 + weight g.operands.values) g.operands.room pushes.fits })
+    (le-leb (1 + weight g.operands.values) g.operands.room pushes.fits)
     c.go_on.ensures.moves
 
 pub returns-then-not-push-clause-moves : goal.returns-then-not-push-clause-moves

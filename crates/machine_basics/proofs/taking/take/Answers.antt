@@ -7,16 +7,12 @@ use Rattle.machine_frames.specs.Undoing.{is_plain}
 use Rattle.machine_steps.specs.declared.step.Step.{Step}
 use Rattle.machine_steps.specs.Moves.{Moves}
 use Rattle.machine_basics.specs.Turns.{takes}
-use Rattle.machine_basics.specs.Performed.{asks_anything}
 use Rattle.machine_basics.proofs.Kept.{keeps_same, if_err}
 use Rattle.machine_basics.proofs.Restored.{if_ok}
 use Rattle.machine_basics.proofs.taking.take.Goals as goal
 
 pub ask-requires-clause-known : goal.ask-requires-clause-known
 ask-requires-clause-known c = sym (ap (is_effect_within (length c.args.state.now.heap.names)) c.in-Ask.is) ∙ c.requires.known
-
-pub ask-requires-clause-room : goal.ask-requires-clause-room
-ask-requires-clause-room c = c.requires.room (ap asks_anything c.in-Ask.is)
 
 pub throw-requires-clause-known : goal.throw-requires-clause-known
 throw-requires-clause-known c =
