@@ -1,4 +1,5 @@
-pub mod Peeled
+pub mod Peeked
+pub mod Files
 pub mod Served
 pub mod Rooms
 pub mod Searched

@@ -1,5 +1,5 @@
 -- Room for the results of methods without frames.
-use Rattle.std.specs.Prelude.{◌≡◌, ℕ, ◌&&◌, not, Bool, true, false, nat_le, List, map, Option, Some, None, refl}
+use Rattle.std.specs.Prelude.{◌≡◌, ℕ, ◌&&◌, not, Bool, true, false, nat_le, List, Option, Some, None}
 use Rattle.std.specs.Option.{option_map}
 use Rattle.std.proofs.Common.{sym, ◌∙◌, ap}
 use Rattle.class_file.specs.Pool.{Reference}
@@ -7,10 +7,10 @@ use Rattle.class_heads.specs.declared.types.ClassHead.{ClassHead}
 use Rattle.class_heads.specs.declared.types.MethodHead.{MethodHead}
 use Rattle.class_world.specs.Tables.{Known}
 use Rattle.class_machine.specs.declared.kinds.Kind.{Kind}
-use Rattle.class_machine.specs.ClassFiles.{Place, class_code, entry_of, method_code}
+use Rattle.class_machine.specs.ClassFiles.{class_code, entry_of, method_code}
 use Rattle.class_machine.specs.Classes.{Method}
 use Rattle.class_machine.specs.Descriptors.{kind_in, result_in}
-use Rattle.class_machine.specs.Turn.{Entry, is_frameless, room_for_result}
+use Rattle.class_machine.specs.Turn.{is_frameless, room_for_result}
 use Rattle.class_machine.specs.Values.{has_room, kind_width}
 use Rattle.machine_code.specs.declared.method_code.MethodCode as lent
 use Rattle.machine_code.specs.declared.method_code.MethodEntry.{MethodEntry}
@@ -27,7 +27,7 @@ use Rattle.machine_invocations.specs.Methods.{classes_in, declared_as, Sees}
 use Rattle.machine_invocations.specs.Standards.{machine_of}
 use Rattle.machine_invocations.proofs.Filled.{weight_same}
 use Rattle.machine_invocations.proofs.Initialised.{called_so}
-use Rattle.machine_invokes.specs.Choosing.{HasRoom, LacksRoom, HasLocals, TakesArguments, result_room, seen_as}
+use Rattle.machine_invokes.specs.Choosing.{HasRoom, LacksRoom, HasLocals, result_room, seen_as}
 
 module _ (k : Known) (g : Frame) where
   room_by : (fields methods : ℕ → Reference) (names : List Name) (m : Method) (o : Option (List ℕ)) → result_in m.name.member.descriptor ≡ o

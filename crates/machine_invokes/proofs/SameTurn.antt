@@ -1,20 +1,13 @@
 -- What the search for a static method comes to is the same, whatever the frame holds.
-use Rattle.std.specs.Prelude.{◌≡◌, ℕ, ◌&&◌, not, Bool, if◌then◌else◌, List, [], ◌∷◌, Option, Some, None, refl}
-use Rattle.std.proofs.Common.{sym, ◌∙◌, ap}
+use Rattle.std.specs.Prelude.{◌≡◌, ℕ, Bool, if◌then◌else◌, List, Option, Some, None, refl}
+use Rattle.std.proofs.Common.{ap}
 use Rattle.class_file.specs.Pool.{Reference}
-use Rattle.class_heads.specs.Hierarchy.{is_array}
-use Rattle.boot_library.specs.declared.rule.LibraryRule.{LibraryRule}
 use Rattle.class_machine.specs.Classes.{Method, Classes}
 use Rattle.class_machine.specs.Descriptors.{result_in}
 use Rattle.class_machine.specs.Events as events
 use Rattle.class_machine.specs.Events.{Event}
-use Rattle.class_machine.specs.LibraryCalls as work
-use Rattle.class_machine.specs.LibraryCalls.{Work}
-use Rattle.class_machine.specs.Natives as native
-use Rattle.class_machine.specs.Natives.{Response, respond, native_event}
-use Rattle.class_machine.specs.Turn.{Code, Frame, frame_at, Purpose, Link, Refused, Needs, Turn, stops, missing_member, is_frameless, has_result_room, room_for_result, callable, entry_fits, static_method, responded, loads, worked, pending, ruled, by_body, by_kind, runs, is_this_or_super, with_receiver}
-use Rattle.class_machine.specs.Values.{Name, Held, Content}
-use Rattle.class_machine.specs.World.{World}
+use Rattle.class_machine.specs.Turn.{Code, Frame, frame_at, Link, Refused, Needs, missing_member, is_frameless, has_result_room, room_for_result, callable, entry_fits, static_method}
+use Rattle.class_machine.specs.Values.{Held, Content}
 
 module _ {P : Type 0} (code : Code P) (cs : Classes) (f : Frame P) (held : Content P) where
   -- the same frame, with something else

@@ -1,17 +1,16 @@
 -- What searches and selections come to.
-use Rattle.std.specs.Prelude.{◌≡◌, ℕ, ◌&&◌, not, Bool, true, false, if◌then◌else◌, nat_lt, nat_le, List, map, length, Option, Some, None, refl}
+use Rattle.std.specs.Prelude.{◌≡◌, ℕ, Bool, true, false, if◌then◌else◌, nat_lt, List, map, length, Option, Some, None, refl}
 use Rattle.std.proofs.Common.{sym, ◌∙◌, ap, subst}
 use Rattle.aj_names.specs.declared.ids.MethodId.{MethodId}
 use Rattle.class_file.specs.Pool.{Reference}
 use Rattle.class_world.specs.Tables.{Known}
-use Rattle.class_machine.specs.declared.kinds.Fault.{Fault}
 use Rattle.class_machine.specs.ClassFiles.{Place, class_code}
 use Rattle.class_machine.specs.Classes.{Method, member_text}
 use Rattle.class_machine.specs.Effect as definition
 use Rattle.class_machine.specs.Events as events
 use Rattle.class_machine.specs.Turn as turns
 use Rattle.class_machine.specs.Turn.{Link, Free, Refused, Needs, Entry, missing_member, instance_method, static_method, entry_fits, is_frameless, stops, linked, with_method, runs_selected, purpose_of}
-use Rattle.class_machine.specs.Values.{Held, Name as Object, arguments_width}
+use Rattle.class_machine.specs.Values.{Held, Name as Object}
 use Rattle.class_machine.specs.World.{World}
 use Rattle.machine_values.specs.declared.frames.Frame.{Frame}
 use Rattle.machine_values.specs.declared.names.Name.{Name}
@@ -26,7 +25,7 @@ use Rattle.machine_invocations.specs.Methods.{classes_in, Sees, Finds, IsFound}
 use Rattle.machine_invocations.specs.Standards.{machine_of}
 use Rattle.machine_invokes.specs.declared.choosing.Choice.{Choice}
 use Rattle.machine_invokes.specs.declared.choosing.Choice.TheVariants.{Missing, Breaks, Runs}
-use Rattle.machine_invokes.specs.Choosing.{RunsMethod, FindsOne, FindsInstance, TakesArguments, HasLocals, seen_as, result_room, HasRoom, LacksRoom, goes_by, call_link, IsRoomy, IsCalled, static_link, RunsStatic, ChoosesStatic, call_turn, by_null, null_turn, ChoosesNull, run_turn, object_there, RunsOn, ByChoice, found_turn, ChoosesFrom, ChosenOn, ComesTo, ChoosesOn}
+use Rattle.machine_invokes.specs.Choosing.{RunsMethod, FindsOne, FindsInstance, HasLocals, seen_as, result_room, HasRoom, LacksRoom, goes_by, call_link, IsRoomy, IsCalled, static_link, ChoosesStatic, call_turn, by_null, null_turn, ChoosesNull, object_there, ByChoice, found_turn, ChoosesFrom, ComesTo, ChoosesOn}
 use Rattle.machine_invokes.specs.Selecting.{ServesAs, Selects}
 
 module _ (k : Known) (g : Frame) where

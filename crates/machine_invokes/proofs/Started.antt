@@ -1,5 +1,5 @@
 -- The trigger of the class of a static method.
-use Rattle.std.specs.Prelude.{◌≡◌, ℕ, zero, suc, ◌<◌, ◌≤◌, ◌++◌, ◌&&◌, Bool, true, false, if◌then◌else◌, List, [], ◌∷◌, map, length, slice_get, slice_index_or, Option, Some, None, Result, Ok, Err, IfOk, refl}
+use Rattle.std.specs.Prelude.{◌≡◌, ℕ, zero, suc, ◌<◌, ◌++◌, ◌&&◌, Bool, true, false, if◌then◌else◌, List, [], ◌∷◌, map, length, slice_index_or, Some, None, Result, Ok, Err, IfOk, refl}
 use Rattle.std.specs.List.{AllByRecursion, list_all}
 use Rattle.std.proofs.Common.{sym, ◌∙◌, ap, subst, arith}
 use Rattle.std.proofs.lemmas.Bool.{and_parts}
@@ -9,25 +9,24 @@ use Rattle.class_file.specs.Pool.{Reference}
 use Rattle.class_heads.specs.Hierarchy.{name_at, superclasses}
 use Rattle.class_world.specs.Tables.{Known}
 use Rattle.class_machine.specs.ClassFiles.{Place, class_code}
-use Rattle.class_machine.specs.Classes.{Classes, Method, is_among, marked}
+use Rattle.class_machine.specs.Classes.{is_among, marked}
 use Rattle.class_machine.specs.Machine.{State}
 use Rattle.class_machine.specs.Turn as turns
 use Rattle.class_machine.specs.Turn.{initialisers, pending, own_initialiser}
-use Rattle.class_machine.specs.World.{World, begin}
+use Rattle.class_machine.specs.World.{begin}
 use Rattle.machine_values.specs.declared.frames.Frame.{Frame}
 use Rattle.machine_values.specs.declared.script.Answer.{Answer}
 use Rattle.machine_values.specs.declared.state.MachineState.{MachineState}
 use Rattle.machine_values.specs.declared.values.Value.{Value}
 use Rattle.machine_values.specs.Standing.{is_settled}
 use Rattle.machine_steps.specs.Programs.{Machine, IsMachine}
-use Rattle.machine_steps.specs.Runs.{IsMethod, IsFormed, Runs}
-use Rattle.machine_invocations.specs.Initialising.{AddsFrames, Begins as BeginsIn, HasBegun, begun_state, has_frame, names_upward}
+use Rattle.machine_steps.specs.Runs.{Runs}
+use Rattle.machine_invocations.specs.Initialising.{AddsFrames, Begins as BeginsIn, HasBegun, has_frame, names_upward}
 use Rattle.machine_invocations.specs.Methods.{classes_in, Sees}
 use Rattle.machine_invocations.specs.Standards.{machine_of, by_machine}
 use Rattle.machine_invocations.proofs.Names.{superclasses_named}
 use Rattle.machine_invokes.specs.Beginning.{HaveBegun}
-use Rattle.machine_invokes.specs.Undoing.{AreSaved}
-use Rattle.machine_invokes.specs.Starting.{marked_state, GoesOn, Waits, PutsOnTop, Triggers, Waiting, AreFine, Starts, StartsAtTop, StartsClass}
+use Rattle.machine_invokes.specs.Starting.{GoesOn, Triggers, Waiting, AreFine, Starts, StartsAtTop, StartsClass}
 use Rattle.machine_invokes.specs.declared.starting.Start.{Start}
 use Rattle.machine_invokes.specs.declared.starting.Start.TheVariants.{Missing, Breaks, Begins, Runs as Goes}
 use Rattle.machine_invokes.specs.declared.choosing.Choice.TheVariants as choice

@@ -1,5 +1,5 @@
 -- A static call, from the taking of its arguments on.
-use Rattle.std.specs.Prelude.{◌≡◌, ℕ, List, [], ◌∷◌, ◌++◌, map, length, Option, Some, None, refl}
+use Rattle.std.specs.Prelude.{◌≡◌, ℕ, List, map, length}
 use Rattle.std.specs.List.{AllByRecursion}
 use Rattle.std.proofs.Common.{sym, ◌∙◌, ap, subst}
 use Rattle.class_file.specs.Pool.{Reference}
@@ -29,7 +29,7 @@ use Rattle.machine_steps.specs.declared.step.Step.TheVariants.{Ended}
 use Rattle.machine_steps.specs.Executing.{executes}
 use Rattle.machine_steps.specs.Giving.{with_values}
 use Rattle.machine_steps.specs.Moves.{Moves, moved_by}
-use Rattle.machine_steps.specs.Programs.{Machine, IsMachine}
+use Rattle.machine_steps.specs.Programs.{IsMachine}
 use Rattle.machine_steps.specs.Running.{seen_by, waiting, moves_at, all_last}
 use Rattle.machine_steps.specs.Runs.{Runs, Stepped}
 use Rattle.machine_invocations.specs.Methods.{classes_in}

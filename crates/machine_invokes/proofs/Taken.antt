@@ -1,5 +1,5 @@
 -- The running frame without what was taken, and with it again.
-use Rattle.std.specs.Prelude.{◌≡◌, ℕ, zero, suc, ◌+◌, ◌-◌, ◌<◌, ◌≤◌, List, [], ◌∷◌, ◌++◌, reverse, take, map, length, slice_get, slice_set, Option, Some, None, refl}
+use Rattle.std.specs.Prelude.{◌≡◌, ℕ, suc, ◌+◌, ◌-◌, ◌<◌, ◌≤◌, List, [], ◌∷◌, ◌++◌, reverse, take, map, length, slice_get, slice_set, Option, Some, None, refl}
 use Rattle.std.specs.Option.{option_map}
 use Rattle.std.proofs.Common.{inl, inr, sym, ◌∙◌, ap, subst, arith, length-append}
 use Rattle.std.proofs.lemmas.List.{map-append, take_more, take_all}
@@ -12,14 +12,19 @@ use Rattle.machine_values.specs.declared.state.MachineState.{MachineState}
 use Rattle.machine_values.specs.declared.values.Value.{Value}
 use Rattle.machine_values.specs.States.{IsFrameWithin}
 use Rattle.machine_frames.specs.declared.calls.Receiver.{Receiver}
-use Rattle.machine_frames.specs.Calls.{CallsStatic, StaticCallBreaks, CallsOn, CallBreaks, AreSettledIn}
+use Rattle.machine_frames.specs.Calls.{CallsStatic, StaticCallBreaks, CallsOn, CallBreaks, AreSettledIn, IsKnownReceiver}
 use Rattle.machine_frames.specs.Undoing.{receiver_value, IsTaken}
 use Rattle.machine_steps.specs.Giving.{with_values, rest_is}
 use Rattle.machine_steps.specs.Running.{Turned, turned_at, split_last, set_last}
 use Rattle.machine_invokes.specs.Taking.{IsPutBack, Takes, TakesStatic, TakesOn, StaticTakeBreaks, TakeBreaks, PutsBack}
-use Rattle.machine_invokes.proofs.Peeled.{there_is}
 
 -- ---- the last of a list
+
+there_is : {A : Type 0} (xs : List A) (i : ℕ) → i < length xs → (x : A) × (slice_get xs i ≡ Some x)
+there_is xs i h = elim (slice_get_cases xs i).1 [
+  | inl there ↦ (there.0, there.2)
+  | inr gone ↦ absurd (let ge = gone.0 in omega arith)
+]
 
 pub last_stands : {A : Type 0} (xs : List A) (x : A) → Some x ≡ slice_get xs (length xs - 1) → xs ≡ take (length xs - 1) xs ++ x ∷ []
 last_stands [] x at = absurd (let e : Some x ≡ None = at in cc)
@@ -97,11 +102,12 @@ module _ (old : MachineState) (top : ℕ) (f p : Frame) (last : top + 1 ≡ leng
         settled = settled;
       }
 
-      pub takes_on : (kinds : List Kind) (receiver : Receiver) (given : List Value) → CallsOn kinds f receiver given p → AreSettledIn f.operands given → IsTaken f (reverse given ++ receiver_value receiver ∷ []) p → TakesOn kinds old receiver given after
-      takes_on kinds receiver given calls settled taken = record {
+      pub takes_on : (kinds : List Kind) (receiver : Receiver) (given : List Value) → CallsOn kinds f receiver given p → AreSettledIn f.operands given → IsKnownReceiver f.operands receiver → IsTaken f (reverse given ++ receiver_value receiver ∷ []) p → TakesOn kinds old receiver given after
+      takes_on kinds receiver given calls settled known taken = record {
         takes = takes (reverse given ++ receiver_value receiver ∷ []) taken;
         calls = subst (CallsOn kinds f receiver given) is_left calls;
         settled = settled;
+        known = known;
       }
 
 -- ---- back

@@ -1,6 +1,5 @@
 -- What a search comes to, and on an object a selection.
 use Rattle.std.specs.Prelude.{◌≡◌, ℕ, ◌&&◌, not, Bool, true, false, nat_le, nat_lt, List, map, length, Option, Some, None}
-use Rattle.std.specs.Option.{option_map}
 use Rattle.aj_names.specs.declared.ids.MethodId.{MethodId}
 use Rattle.class_file.specs.Pool.{Reference}
 use Rattle.class_world.specs.Tables.{Known}
@@ -17,7 +16,6 @@ use Rattle.machine_values.specs.declared.frames.Frame as kept
 use Rattle.machine_values.specs.declared.names.Name.{Name}
 use Rattle.machine_values.specs.declared.values.Ref.{Ref}
 use Rattle.machine_values.specs.declared.values.Value.{Value}
-use Rattle.machine_values.specs.Stacks.{weight}
 use Rattle.machine_values.specs.Standing.{name_of, held}
 use Rattle.machine_values.specs.Things.{Things}
 use Rattle.machine_requests.specs.Telling.{AreFit}

@@ -1,5 +1,5 @@
 -- What an invocation comes to: the step is done, or a method is to run.
-use Rattle.std.specs.Prelude.{◌≡◌, ◌&&◌, if◌then◌else◌, not, true, false, Bool, ℕ, List, ◌∷◌, map, length, Option, Some, None, refl}
+use Rattle.std.specs.Prelude.{◌≡◌, ◌&&◌, if◌then◌else◌, not, true, false, Bool, List, ◌∷◌, map, length, Option, Some, None, refl}
 use Rattle.std.proofs.Common.{sym, ◌∙◌, ap, subst}
 use Rattle.std.specs.List.{AllByRecursion}
 use Rattle.std.specs.Option.{option_map}
@@ -25,9 +25,9 @@ use Rattle.machine_values.specs.Standing.{name_of, held, Settled}
 use Rattle.machine_values.specs.States.{machine_purpose, is_known_object}
 use Rattle.machine_steps.specs.declared.step.Step.{Step}
 use Rattle.machine_steps.specs.Executing.{executes, MovesOver}
-use Rattle.machine_steps.specs.Moves.{Turning, moved_by, Moves}
+use Rattle.machine_steps.specs.Moves.{Turning, Moves}
 use Rattle.machine_steps.specs.Programs.{Machine, IsMachine}
-use Rattle.machine_steps.specs.Runs.{IsMethod, Runs, Stepped}
+use Rattle.machine_steps.specs.Runs.{Runs, Stepped}
 use Rattle.machine_invocations.specs.Methods.{Sees}
 use Rattle.machine_invokes.specs.declared.invocation.Invocation.{Invocation}
 use Rattle.machine_invokes.specs.declared.invocation.Prepared.{Prepared}

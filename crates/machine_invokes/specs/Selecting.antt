@@ -1,5 +1,5 @@
 -- Which method of an object a call runs.
-use Rattle.std.specs.Prelude.{◌≡◌, ℕ, Bool, List, length, Option}
+use Rattle.std.specs.Prelude.{◌≡◌, ℕ, Bool, length, Option}
 use Rattle.aj_names.specs.declared.ids.MethodId.{MethodId}
 use Rattle.class_file.specs.Pool.{Reference}
 use Rattle.class_world.specs.Tables.{Known}

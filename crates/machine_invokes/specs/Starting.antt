@@ -1,31 +1,28 @@
 -- What a static call comes to, once its arguments are taken.
-use Rattle.std.specs.Prelude.{◌≡◌, ℕ, ◌++◌, ◌<◌, Bool, false, List, [], ◌∷◌, map, length, Option, Some, None}
+use Rattle.std.specs.Prelude.{◌≡◌, ℕ, ◌++◌, Bool, false, List, [], ◌∷◌, length, Option, Some}
 use Rattle.std.specs.List.{AllByRecursion}
 use Rattle.class_file.specs.Pool.{Reference}
-use Rattle.class_heads.specs.Hierarchy.{name_at}
 use Rattle.class_world.specs.Tables.{Known}
 use Rattle.class_machine.specs.ClassFiles.{Place, class_code}
-use Rattle.class_machine.specs.Classes.{Method, member_text}
-use Rattle.class_machine.specs.Effect as definition
+use Rattle.class_machine.specs.Classes.{Method}
 use Rattle.class_machine.specs.Events as events
 use Rattle.class_machine.specs.Machine.{State}
 use Rattle.class_machine.specs.Turn as turns
 use Rattle.class_machine.specs.Turn.{Turn, Ordinary, linked, pending, runs, stops}
-use Rattle.class_machine.specs.World.{World, begin}
+use Rattle.class_machine.specs.World.{begin}
 use Rattle.machine_values.specs.declared.frames.Frame.{Frame}
 use Rattle.machine_values.specs.declared.script.Answer.{Answer}
 use Rattle.machine_values.specs.declared.state.MachineState.{MachineState}
 use Rattle.machine_values.specs.declared.values.Value.{Value}
-use Rattle.machine_values.specs.Standing.{held, Settled}
+use Rattle.machine_values.specs.Standing.{Settled}
 use Rattle.machine_steps.specs.Programs.{Machine, IsMachine}
-use Rattle.machine_steps.specs.Running.{waiting}
-use Rattle.machine_steps.specs.Runs.{IsMethod, Runs}
+use Rattle.machine_steps.specs.Runs.{Runs}
 use Rattle.machine_invocations.specs.Initialising.{begun_state}
 use Rattle.machine_invocations.specs.Methods.{classes_in, Sees}
 use Rattle.machine_invocations.specs.Standards.{machine_of}
 use Rattle.machine_invokes.specs.declared.starting.Start.{Start}
 use Rattle.machine_invokes.specs.declared.starting.Start.TheVariants.{Missing, Breaks, Begins, Runs as Goes}
-use Rattle.machine_invokes.specs.Choosing.{LacksRoom, seen_as, static_link}
+use Rattle.machine_invokes.specs.Choosing.{LacksRoom, static_link}
 use Rattle.machine_invokes.specs.Undoing.{AreSaved}
 
 -- ---- the trigger of a class

@@ -1,13 +1,12 @@
 -- What invocations take from the running frame of a state.
-use Rattle.std.specs.Prelude.{◌≡◌, ℕ, ◌++◌, List, [], ◌∷◌, reverse, length, take, drop, Some}
-use Rattle.class_file.specs.Pool.{Reference}
+use Rattle.std.specs.Prelude.{◌≡◌, ℕ, ◌++◌, List, [], ◌∷◌, reverse, length}
 use Rattle.class_machine.specs.declared.kinds.Kind.{Kind}
 use Rattle.machine_values.specs.declared.frames.Frame.{Frame}
 use Rattle.machine_values.specs.declared.state.MachineState.{MachineState}
 use Rattle.machine_values.specs.declared.values.Value.{Value}
 use Rattle.machine_values.specs.States.{IsFrameWithin}
 use Rattle.machine_frames.specs.declared.calls.Receiver.{Receiver}
-use Rattle.machine_frames.specs.Calls.{kinds_for, CallsStatic, StaticCallBreaks, CallsOn, CallBreaks, AreSettledIn}
+use Rattle.machine_frames.specs.Calls.{CallsStatic, StaticCallBreaks, CallsOn, CallBreaks, AreSettledIn, IsKnownReceiver}
 use Rattle.machine_frames.specs.Undoing.{receiver_value, IsTaken}
 use Rattle.machine_steps.specs.Giving.{with_values}
 use Rattle.machine_steps.specs.Running.{Turned}
@@ -35,12 +34,7 @@ pub record TakesOn (kinds : List Kind) (old : MachineState) (receiver : Receiver
   pub takes : Takes old new (reverse given ++ receiver_value receiver ∷ [])
   pub calls : CallsOn kinds takes.before receiver given (with_values takes.before takes.left)
   pub settled : AreSettledIn takes.before.operands given
-
--- a call on an object or on null, which that reference names
-pub record IsOnObject (old new : MachineState) (r : Reference) (receiver : Receiver) (given : List Value) : Type 0 where
-  pub kinds : List Kind
-  pub same : kinds_for r ≡ kinds
-  pub takes : TakesOn kinds old receiver given new
+  pub known : IsKnownReceiver takes.before.operands receiver
 
 -- the running frame breaks the run; the frame that it is then has the same method
 pub record StaticTakeBreaks (kinds : List Kind) (old new : MachineState) : Type 0 where

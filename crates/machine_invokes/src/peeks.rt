@@ -1,11 +1,11 @@
 //! On what a call is, seen while nothing is taken yet.
 
 ghost use Rattle.std.specs.Prelude.{◌≡◌};
-ghost use Rattle.machine_invokes.specs.Peeking.{object_in, KnowsObject, LiesBelow, CalledOn, is_special};
+ghost use Rattle.machine_steps.specs.Parts.{is_special};
+ghost use Rattle.machine_invokes.specs.Peeking.{object_in, object_below, receiver_in};
 
 use class_machine::kinds::Mode;
-use machine_code::{parameter_count, parameter_kind};
-use machine_frames::is_of;
+use machine_code::parameter_count;
 use machine_values::{Frame, Ref, Value};
 
 fn object_in(held: &Value) -> Option<Ref>
@@ -17,30 +17,18 @@ fn object_in(held: &Value) -> Option<Ref>
     }
 }
 
-// The object below the arguments, where each of these is of its parameter's kind.
-fn object_below(frame: &Frame, descriptor: &[u8]) -> Option<Ref>
-    ensures lies { LiesBelow descriptor.now frame.now result }
-    ensures known { KnowsObject frame.now result }
+// What lies below so many arguments, where that is an object.
+fn object_below(frame: &Frame, arguments: usize) -> Option<Ref>
+    ensures { result ≡ object_below arguments frame.now }
 {
-    let mut rest = frame.operands.as_slice();
-    let mut left = parameter_count(descriptor);
-    'peeling: while left > 0 {
-        left -= 1;
-        let Some((last, below)) = rest.split_last() else {
-            return None;
-        };
-        let Some(kind) = parameter_kind(descriptor, left) else {
-            return None;
-        };
-        if !is_of(kind, last) {
-            return None;
-        }
-        rest = below;
-    }
-    let Some((held, _below)) = rest.split_last() else {
+    let operands = frame.operands.as_slice();
+    if operands.len() <= arguments {
         return None;
-    };
-    object_in(held)
+    }
+    match operands.get(operands.len() - 1 - arguments) {
+        Some(held) => object_in(held),
+        None => None,
+    }
 }
 
 /// Whether it is `invokespecial`.
@@ -50,14 +38,13 @@ pub(crate) fn is_special(mode: Mode) -> bool
     matches!(mode, Mode::Special)
 }
 
-/// The object that the method of the descriptor is called on, where it is called on one and each
-/// argument is of its parameter's kind (JVMS 3.11.8).
-pub(crate) fn called_on(frame: &Frame, mode: Mode, descriptor: &[u8]) -> Option<Ref>
-    ensures called { CalledOn mode descriptor.now frame.now result }
-    ensures known { KnowsObject frame.now result }
+/// The object below the arguments of a call of a method of the descriptor, if it is called on one
+/// (JVMS 3.11.8).
+pub(crate) fn receiver_of(frame: &Frame, mode: Mode, descriptor: &[u8]) -> Option<Ref>
+    ensures { result ≡ receiver_in mode descriptor.now frame.now }
 {
     match mode {
         Mode::Static => None,
-        _ => object_below(frame, descriptor),
+        _ => object_below(frame, parameter_count(descriptor)),
     }
 }

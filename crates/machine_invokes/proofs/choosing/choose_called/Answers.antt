@@ -1,7 +1,7 @@
 use Rattle.std.specs.Prelude.{refl, Bool, Some}
 use Rattle.std.proofs.Common.{subst}
 use Rattle.machine_invokes.specs.Choosing.{HasRoom, HasLocals}
-use Rattle.machine_invokes.specs.declared.choosing.Choice.TheVariants.{Missing, Breaks, Runs}
+use Rattle.machine_invokes.specs.declared.choosing.Choice.TheVariants.{Breaks, Runs}
 use Rattle.machine_invokes.proofs.Rooms.{frameless_lacks, framed_lacks}
 use Rattle.machine_invokes.proofs.Searched.{frameless_called, codeless_called, coded_called}
 use Rattle.machine_invokes.proofs.choosing.choose_called.Goals as goal

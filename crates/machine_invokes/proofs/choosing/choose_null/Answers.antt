@@ -1,4 +1,4 @@
-use Rattle.std.specs.Prelude.{refl, Bool}
+use Rattle.std.specs.Prelude.{refl}
 use Rattle.std.proofs.Common.{subst}
 use Rattle.class_file.specs.Lookup.{reference_seen}
 use Rattle.machine_invokes.specs.Choosing.{LacksRoom}

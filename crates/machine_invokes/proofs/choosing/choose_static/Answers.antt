@@ -1,6 +1,4 @@
-use Rattle.machine_invocations.specs.Methods.{classes_in, Finds}
 use Rattle.machine_invocations.proofs.Seen.{seen_method}
-use Rattle.std.proofs.Common.{subst, sym, ◌∙◌}
 use Rattle.class_file.specs.Lookup.{reference_seen}
 use Rattle.machine_invokes.proofs.Searched.{none_static, instance_static, called_static, called_method}
 use Rattle.machine_invokes.proofs.choosing.choose_static.Goals as goal

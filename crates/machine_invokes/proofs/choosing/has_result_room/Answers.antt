@@ -1,5 +1,4 @@
-use Rattle.std.specs.Option.{option_copied}
-use Rattle.std.proofs.Common.{sym, ◌∙◌, ap}
+use Rattle.std.proofs.Common.{◌∙◌, ap}
 use Rattle.class_machine.specs.Descriptors.{result_in}
 use Rattle.machine_invokes.proofs.Rooms.{void_has_room, value_has_room}
 use Rattle.machine_invokes.proofs.choosing.has_result_room.Goals as goal

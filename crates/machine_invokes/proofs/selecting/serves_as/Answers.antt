@@ -1,5 +1,5 @@
 use Rattle.std.specs.Prelude.{ℕ, List, Some}
-use Rattle.std.proofs.Common.{sym, ap, ◌∙◌, subst}
+use Rattle.std.proofs.Common.{sym, ◌∙◌, subst}
 use Rattle.machine_fields.specs.Settings.{world_setting}
 use Rattle.machine_requests.specs.Objects.{IsBelow}
 use Rattle.machine_invocations.proofs.Seen.{class_named}

@@ -1,5 +1,5 @@
 use Rattle.std.specs.Prelude.{Bool, List, refl}
-use Rattle.std.proofs.Common.{sym, ◌∙◌, subst}
+use Rattle.std.proofs.Common.{◌∙◌, subst}
 use Rattle.class_heads.specs.Hierarchy.{name_at}
 use Rattle.machine_invocations.proofs.Begun.{keeps_same, on_err}
 use Rattle.machine_invokes.specs.Beginning.{HaveBegun}

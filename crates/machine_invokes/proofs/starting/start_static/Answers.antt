@@ -1,10 +1,9 @@
-use Rattle.std.specs.Prelude.{◌≡◌, ◌+◌, ◌-◌, ℕ, Bool, List, length, slice_get, Some, refl}
+use Rattle.std.specs.Prelude.{◌≡◌, ◌+◌, ◌-◌, ℕ, length, slice_get, Some}
 use Rattle.std.proofs.Common.{sym, ◌∙◌, ap, arith, subst}
 use Rattle.std.specs.List.{list_all}
 use Rattle.std.proofs.lemmas.Option.{slice_get_read}
 use Rattle.class_file.specs.Lookup.{reference_seen}
 use Rattle.machine_values.specs.Standing.{is_settled}
-use Rattle.machine_invokes.specs.declared.choosing.Choice.{Choice}
 use Rattle.machine_invokes.specs.Choosing.{ChoosesStatic, RunsMethod}
 use Rattle.machine_invokes.specs.Starting.{StartsClass, StartsAtTop}
 use Rattle.machine_invokes.proofs.Started.{unsettled_starts, missing_starts, broken_starts, class_starts, all_found, if_ok}

@@ -1,7 +1,6 @@
-use Rattle.std.specs.Prelude.{◌≡◌, ◌∷◌, ◌++◌, [], ℕ, List, Some, None, length, slice_get}
+use Rattle.std.specs.Prelude.{◌≡◌, ℕ, Some, None, length, slice_get}
 use Rattle.std.specs.Option.{option_map}
 use Rattle.std.proofs.Common.{sym, ◌∙◌, subst, arith}
-use Rattle.class_machine.specs.declared.kinds.Kind.{Kind}
 use Rattle.class_machine.specs.Descriptors.{kind_in, parameters_in}
 use Rattle.machine_invokes.proofs.Taken.{Gathers, gathers_none, gathers_more, gathers_all, one_less}
 use Rattle.machine_invokes.proofs.taking.parameter_kinds.Goals as goal

@@ -1,10 +1,8 @@
-use Rattle.std.specs.Prelude.{◌≡◌, ◌-◌, ◌+◌, ◌++◌, ◌∷◌, [], ℕ, List, Option, Some, length, reverse, slice_get, MatchOption, IfSome}
-use Rattle.std.proofs.Common.{arith, subst, Vec, Global}
+use Rattle.std.specs.Prelude.{◌≡◌, ◌-◌, ◌+◌, ◌++◌, ◌∷◌, [], ℕ, Option, Some, length, reverse, slice_get, MatchOption, IfSome}
+use Rattle.std.proofs.Common.{arith, subst}
 use Rattle.std.proofs.lemmas.Option.{slice_get_read}
-use Rattle.class_machine.specs.declared.kinds.Kind.{Kind}
-use Rattle.machine_values.specs.declared.values.Value.{Value}
 use Rattle.machine_frames.specs.declared.calls.Call.{Call}
-use Rattle.machine_frames.specs.Calls.{CallsStatic, StaticCallBreaks, CallsOn, CallBreaks, AreSettledIn}
+use Rattle.machine_frames.specs.Calls.{CallsOn, CallBreaks, AreSettledIn, IsKnownReceiver}
 use Rattle.machine_frames.specs.Undoing.{receiver_value, IsTaken}
 use Rattle.machine_invocations.proofs.Begun.{on_err}
 use Rattle.machine_invokes.proofs.Taken.{unchanged, call_fails, takes_on}
@@ -43,4 +41,5 @@ returns-clause-taken c =
     takes_on old top f p last there c.call_on.ensures.rest c.call_on.ensures.room c.call_on.ensures.within kinds c.in-Some.call.receiver c.in-Some.call.arguments.items
     (subst (λ (o : Option (Call)). MatchOption o (CallBreaks kinds f) (λ x. CallsOn kinds f x.receiver x.arguments.items p)) c.in-Some.is c.in_ok-call.ensures.taken)
     (subst (λ (o : Option (Call)). IfSome o (λ x. AreSettledIn f.operands x.arguments.items)) c.in-Some.is c.in_ok-call.ensures.settled)
+    (subst (λ (o : Option (Call)). IfSome o (λ x. IsKnownReceiver f.operands x.receiver)) c.in-Some.is c.in_ok-call.ensures.known)
     (subst (λ (o : Option (Call)). IfSome o (λ x. IsTaken f (reverse x.arguments.items ++ receiver_value x.receiver ∷ []) p)) c.in-Some.is c.in_ok-call.ensures.popped)

@@ -1,11 +1,9 @@
-use Rattle.std.specs.Prelude.{◌≡◌, ◌-◌, ◌+◌, ◌++◌, ◌∷◌, [], ℕ, List, Option, Some, length, reverse, slice_get, MatchOption, IfSome}
+use Rattle.std.specs.Prelude.{◌≡◌, ◌-◌, ◌+◌, ℕ, Option, Some, length, reverse, slice_get, MatchOption, IfSome}
 use Rattle.std.proofs.Common.{arith, subst, Vec, Global}
 use Rattle.std.proofs.lemmas.Option.{slice_get_read}
-use Rattle.class_machine.specs.declared.kinds.Kind.{Kind}
 use Rattle.machine_values.specs.declared.values.Value.{Value}
-use Rattle.machine_frames.specs.declared.calls.Call.{Call}
-use Rattle.machine_frames.specs.Calls.{CallsStatic, StaticCallBreaks, CallsOn, CallBreaks, AreSettledIn}
-use Rattle.machine_frames.specs.Undoing.{receiver_value, IsTaken}
+use Rattle.machine_frames.specs.Calls.{CallsStatic, StaticCallBreaks, AreSettledIn}
+use Rattle.machine_frames.specs.Undoing.{IsTaken}
 use Rattle.machine_invocations.proofs.Begun.{on_err}
 use Rattle.machine_invokes.proofs.Taken.{unchanged, static_fails, takes_static}
 use Rattle.machine_invokes.proofs.taking.take_static.Goals as goal

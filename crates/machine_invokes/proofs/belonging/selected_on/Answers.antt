@@ -1,9 +1,8 @@
 use Rattle.std.specs.Prelude.{◌≡◌, true, false}
 use Rattle.std.proofs.Common.{sym, ◌∙◌, subst}
 use Rattle.std.specs.Prelude.{Bool}
-use Rattle.machine_invokes.specs.Peeking.{is_special}
 use Rattle.machine_invokes.specs.Selecting.{Selects}
-use Rattle.machine_invokes.proofs.ruled.selected_on.Goals as goal
+use Rattle.machine_invokes.proofs.belonging.selected_on.Goals as goal
 
 pub returns-then-not-is_known-clause-selected : goal.returns-then-not-is_known-clause-selected
 returns-then-not-is_known-clause-selected c fields methods f m is fit same sees known = absurd (let e : true ≡ false = sym known ∙ sym c.is_known.ensures ∙ c.if-not-is_known.true in cc)
