@@ -2,6 +2,7 @@ pub mod Refusing
 pub mod Cuts
 pub mod Escapes
 pub mod Closing
+pub mod CommandRead
 pub mod TextWords
 pub mod Listing
 pub mod NumberWords

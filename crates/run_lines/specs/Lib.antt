@@ -7,4 +7,5 @@ pub mod Names
 pub mod Arguments
 pub mod EntryWord
 pub mod ScriptLines
+pub mod CommandWords
 pub mod Printing

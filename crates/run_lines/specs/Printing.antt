@@ -1,5 +1,6 @@
 -- The lines that are printed of a run.
-use Rattle.std.specs.Prelude.{[], ◌∷◌, ◌++◌, codes, Option, Some, None}
+use Rattle.std.specs.Prelude.{List, [], ◌∷◌, ◌++◌, codes, Option, Some, None}
+use Rattle.std.specs.List.{flat_map}
 use Rattle.class_machine.specs.Lines.{event_text, ending_text}
 use Rattle.machine_values.specs.declared.observed.Event.{Event}
 use Rattle.machine_values.specs.declared.observed.Ending.{Ending}
@@ -20,3 +21,7 @@ ending_line ending = line_of (ending_text (machine_ending ending))
 abbrev pub outcome_line : Option Ending → Text
 outcome_line None = line_of (codes "steps-spent")
 outcome_line (Some ending) = ending_line ending
+
+-- all that is printed of a run: its events, the oldest first, and how it came out
+abbrev pub run_text : List Event → Option Ending → Text
+run_text events ending = flat_map event_line events ++ outcome_line ending

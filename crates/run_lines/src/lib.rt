@@ -5,6 +5,7 @@
 //! the relation, of which there is one at most, and finds none exactly where there is none.
 #![tactic(auto)]
 
+mod command;
 mod entry;
 mod fault;
 mod names;
@@ -15,8 +16,9 @@ mod splits;
 mod texts;
 mod values;
 
+pub use command::{RunWords, read_run};
 pub use entry::{EntryWords, read_entry};
 pub use fault::ScriptFault;
 pub use numbers::read_steps;
 pub use script::read_script;
-pub use values::{ending_line, event_line, outcome_line};
+pub use values::{ending_line, event_line, outcome_line, run_text};

@@ -6,7 +6,7 @@ ghost use Rattle.class_machine.specs.Numbers.{decimal};
 ghost use Rattle.class_machine.specs.Lines.{fixed_digits, quoted, type_name, numbered_name, value_text, separated, event_text, result_text, message_text, ending_text};
 ghost use Rattle.machine_values.specs.Types as types;
 ghost use Rattle.machine_values.specs.Observed.{machine_shown, method_reference, machine_event, machine_ending};
-ghost use Rattle.run_lines.specs.Printing.{event_line, ending_line, outcome_line};
+ghost use Rattle.run_lines.specs.Printing.{event_line, ending_line, outcome_line, run_text};
 
 use crate::printing::{
     put, put_digits, put_dotted, put_integer, put_number, put_quoted, put_type_name,
@@ -149,14 +149,21 @@ fn put_event(alloc: Global, out: &mut Vec<u8>, event: &Event) -> Result<(), Allo
     }
 }
 
+/// An event, and the line feed that ends its line.
+fn put_event_line(alloc: Global, out: &mut Vec<u8>, event: &Event) -> Result<(), AllocError>
+    ensures { OnOk result (out.new.items ≡ out.old.items ++ event_line event.now) }
+{
+    put_event(alloc, out, event)?;
+    put(out, b"\n")
+}
+
 /// The line of an event: `print` and the text in quotes, or `native`, the method by its dotted class
 /// and its name, and the values in brackets.
 pub fn event_line(alloc: Global, event: &Event) -> Result<Vec<u8>, AllocError>
     ensures { IfOk result (λ line. line.items ≡ event_line event.now) }
 {
     let mut line = Vec::new(alloc);
-    put_event(alloc, &mut line, event)?;
-    line.push(b'\n')?;
+    put_event_line(alloc, &mut line, event)?;
     Ok(line)
 }
 
@@ -245,4 +252,21 @@ pub fn outcome_line(alloc: Global, ending: &Option<Ending>) -> Result<Vec<u8>, A
         None => Vec::from_slice(alloc, b"steps-spent\n"),
         Some(ending) => ending_line(alloc, ending),
     }
+}
+
+/// All that is printed of a run: the lines of its events, and the line of its ending or `steps-spent`.
+pub fn run_text(
+    alloc: Global,
+    events: &[Event],
+    ending: &Option<Ending>,
+) -> Result<Vec<u8>, AllocError>
+    ensures { IfOk result (λ text. text.items ≡ run_text events.now ending.now) }
+{
+    let mut text = Vec::new(alloc);
+    for event in events {
+        put_event_line(alloc, &mut text, event)?;
+    }
+    let outcome = outcome_line(alloc, ending)?;
+    put(&mut text, outcome.as_slice())?;
+    Ok(text)
 }
