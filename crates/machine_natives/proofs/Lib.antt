@@ -7,4 +7,3 @@ pub mod Onward
 pub mod Shown
 pub mod Called
 pub mod Entries
-pub mod Heads

@@ -1,11 +1,11 @@
--- Classes of the library in a world: Strings have no fields, and what is below Throwable is there.
-use Rattle.std.specs.Prelude.{◌≡◌, ℕ, suc, ◌+◌, ◌-◌, ◌<◌, ◌≤◌, ◌||◌, ◌==◌, Bool, true, false, if◌then◌else◌, is_some, List, [], ◌∷◌, ◌++◌, map, length, slice_get, Option, Some, None, refl}
+-- Classes of the library in a world: objects with texts have no fields, and what is below Throwable is there.
+use Rattle.std.specs.Prelude.{◌≡◌, ℕ, suc, ◌+◌, ◌-◌, ◌<◌, ◌≤◌, ◌⊎◌, ◌||◌, ◌==◌, Bool, true, false, if◌then◌else◌, is_some, List, [], ◌∷◌, ◌++◌, map, codes, length, slice_get, Option, Some, None, refl}
 use Rattle.std.specs.List.{flat_map, filter_map, cons_option}
 use Rattle.std.specs.Option.{option_to_list}
 use Rattle.std.specs.Str.{bytes_eq}
 use Rattle.std.specs.Cmp.Lexicographic.{bytes_decides}
-use Rattle.std.proofs.Common.{sym, ap, ◌∙◌, arith, lit<, lit≤}
-use Rattle.std.proofs.lemmas.Bool.{false≢true}
+use Rattle.std.proofs.Common.{sym, ap, ◌∙◌, arith, inl, inr, lit<, lit≤}
+use Rattle.std.proofs.lemmas.Bool.{false≢true, or_cases}
 use Rattle.std.proofs.lemmas.Option.{none-some}
 use Rattle.boot_library.specs.Heads.{library_heads}
 use Rattle.class_heads.specs.declared.types.ClassHead.{ClassHead}
@@ -17,6 +17,7 @@ use Rattle.class_machine.specs.ClassFiles.{field_constant}
 use Rattle.class_machine.specs.Declarations as run
 use Rattle.class_machine.specs.Declarations.{own_fields, fields_of, hidden_fields}
 use Rattle.class_machine.specs.Values.{string_class, throwable_class, print_stream_class}
+use Rattle.class_machine.specs.World.{is_text_class}
 use Rattle.machine_steps.specs.Programs.{IsRunnable}
 use Rattle.machine_steps.proofs.InLibrary.{library_place}
 use Rattle.machine_invocations.specs.Methods.{classes_in}
@@ -124,5 +125,23 @@ many_heads k runnable =
       length_append [] ys = let e : length ys ≡ 0 + length ys = omega arith in e
       length_append (x ∷ xs) ys = let e = length_append xs ys in omega arith
 
-pub string_fields : (k : Known) → IsRunnable k → (classes_in k).fields string_class ≡ []
-string_fields k runnable = bare k runnable 3 string_class _ _ refl refl (lit< tt) refl refl refl refl refl refl refl refl (many_heads k runnable)
+abbrev buffer : List ℕ
+buffer = codes "java/lang/StringBuffer"
+
+abbrev builder : List ℕ
+builder = codes "java/lang/StringBuilder"
+
+-- objects with texts have no fields
+pub text_fields : (k : Known) → IsRunnable k → (name : List ℕ) → is_text_class name ≡ true → (classes_in k).fields name ≡ []
+text_fields k runnable name text = by (or_cases (bytes_eq name string_class) (bytes_eq name buffer || bytes_eq name builder) text) where
+  -- one of the library
+  at : (other : List ℕ) → bytes_eq name other ≡ true → (classes_in k).fields other ≡ [] → (classes_in k).fields name ≡ []
+  at other same none = ap (classes_in k).fields ((bytes_decides name other).0 same) ∙ none
+
+  other : (bytes_eq name buffer ≡ true) ⊎ (bytes_eq name builder ≡ true) → (classes_in k).fields name ≡ []
+  other (inl same) = at buffer same (bare k runnable 4 buffer _ _ refl refl (lit< tt) refl refl refl refl refl refl refl refl (many_heads k runnable))
+  other (inr same) = at builder same (bare k runnable 5 builder _ _ refl refl (lit< tt) refl refl refl refl refl refl refl refl (many_heads k runnable))
+
+  by : (bytes_eq name string_class ≡ true) ⊎ ((bytes_eq name buffer || bytes_eq name builder) ≡ true) → (classes_in k).fields name ≡ []
+  by (inl same) = at string_class same (bare k runnable 3 string_class _ _ refl refl (lit< tt) refl refl refl refl refl refl refl refl (many_heads k runnable))
+  by (inr rest) = other (or_cases (bytes_eq name buffer) (bytes_eq name builder) rest)

@@ -1,5 +1,5 @@
 -- New Strings.
-use Rattle.std.specs.Prelude.{◌≡◌, ℕ, suc, ◌<◌, true, nat_lt, List, [], length}
+use Rattle.std.specs.Prelude.{◌≡◌, ℕ, suc, ◌<◌, true, nat_lt, List, [], length, refl}
 use Rattle.std.proofs.Common.{sym, ap, ◌∙◌, subst, arith}
 use Rattle.std.proofs.lemmas.Bool.{lt-ltb}
 use Rattle.aj_names.specs.declared.ids.ClassId.{ClassId}
@@ -28,7 +28,7 @@ use Rattle.machine_requests.proofs.NewArrays.{last_name, ref}
 use Rattle.machine_steps.specs.Programs.{IsRunnable, Machine, IsMachine}
 use Rattle.machine_invocations.specs.Methods.{classes_in}
 use Rattle.machine_natives.specs.Throwables.{Holds, IsString, MakesString}
-use Rattle.machine_natives.proofs.Library.{string_fields}
+use Rattle.machine_natives.proofs.Library.{text_fields}
 
 pub distinct_in : (k : Known) (m : Machine) → IsMachine k m → AreDistinct m.setting.heads
 distinct_in k m is = subst AreDistinct (sym is.heads) is.distinct
@@ -49,7 +49,7 @@ module _ (k : Known) (runnable : IsRunnable k) (before : Things) (units : List �
       let distinct = distinct_in k m is in
       let told = all_told s.heads distinct (Class class) before.names fit holds.shares.fit in
       let numbers : worlds.made w.heap (name_at s.heads class.0) ≡ made before.names (Class class) = made_alike s.heads s.classes.fields before w.heap (Class class) holds.shares.heap.objects told in
-      let fields : s.classes.fields (name_at s.heads class.0) ≡ [] = ap (λ (cs : Classes). cs.fields (name_at s.heads class.0)) is.classes ∙ ap (classes_in k).fields name ∙ string_fields k runnable in
+      let fields : s.classes.fields (name_at s.heads class.0) ≡ [] = ap (λ (cs : Classes). cs.fields (name_at s.heads class.0)) is.classes ∙ ap (classes_in k).fields name ∙ text_fields k runnable string_class refl in
       record {
         name = last_name s.heads before.names (next_name before.names (Class class)) ∙ ap (λ n. machine.Made (name_at s.heads class.0) (suc n)) (sym numbers) ∙ ap (λ n. machine.Made n (suc (worlds.made w.heap n))) name;
         holds = record {

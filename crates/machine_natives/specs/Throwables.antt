@@ -1,35 +1,20 @@
--- The classes whose objects can be thrown, and their messages.
-use Rattle.std.specs.Prelude.{◌≡◌, ℕ, ◌<◌, ◌≤◌, true, false, is_some, List, take, length}
-use Rattle.class_heads.specs.Hierarchy.{name_at, is_subtype}
+-- New exceptions and their messages.
+use Rattle.std.specs.Prelude.{◌≡◌, ℕ, ◌≤◌, List, take, slice_get, Some}
+use Rattle.class_heads.specs.Hierarchy.{name_at}
 use Rattle.class_world.specs.Tables.{Known}
 use Rattle.class_machine.specs.Values as machine
-use Rattle.class_machine.specs.Values.{throwable_class, class_of}
-use Rattle.class_machine.specs.World.{World, is_text_class, message_field, add_text, write_field}
+use Rattle.class_machine.specs.World.{World, message_field, add_text, write_field}
 use Rattle.aj_names.specs.declared.ids.ClassId.{ClassId}
 use Rattle.machine_values.specs.declared.content.Content.{Content}
 use Rattle.machine_values.specs.declared.content.Content.TheVariants.{Text}
 use Rattle.machine_values.specs.declared.names.Maker.TheVariants.{Class}
+use Rattle.machine_values.specs.declared.names.Name.TheVariants.{Made}
 use Rattle.machine_values.specs.declared.values.Ref.{Ref}
 use Rattle.machine_values.specs.Standing.{name_of}
 use Rattle.machine_values.specs.Things.{Things, with_made}
-use Rattle.machine_requests.specs.Objects.{AreFilled, IsNew, field_place}
+use Rattle.machine_requests.specs.Objects.{AreFilled, IsNew}
 use Rattle.machine_requests.specs.Shares.{Others, Shares}
-use Rattle.machine_fields.specs.Positions.{fields_of_class}
 use Rattle.machine_steps.specs.Programs.{Machine, IsMachine}
-
--- objects of the class have no text, and among their fields is the message
-pub record HasMessage (k : Known) (class : ℕ) : Type 0 where
-  pub plain : is_text_class (name_at k.heads class) ≡ false
-  pub placed : is_some (field_place (fields_of_class k class) message_field) ≡ true
-
--- So have those of Throwable and of each class below it. By well-formed files an interface may have another superclass than
--- Object, which the specification forbids (JVMS 4.1): in such a world a class may be below Throwable by that interface alone.
-pub record HasThrowables (k : Known) : Type 0 where
-  pub each : (class : ℕ) → class < length k.heads → is_subtype k.heads (name_at k.heads class) throwable_class ≡ true → HasMessage k class
-
--- of the first so many classes
-pub record HasSome (k : Known) (count : ℕ) : Type 0 where
-  pub each : (class : ℕ) → class < count → class < length k.heads → is_subtype k.heads (name_at k.heads class) throwable_class ≡ true → HasMessage k class
 
 -- the heap stands for the world, and each object has a value for each field of its class
 pub record Holds (m : Machine) (things : Things) (others : Others) (w : World) : Type 0 where
@@ -57,9 +42,9 @@ pub record MakesString (k : Known) (before : Things) (units : List ℕ) (after :
 
 -- ---- messages
 
--- the exception, an object of the class, holds the text as its message
-pub record KeepsMessage (k : Known) (class : ℕ) (before after : Things) (x text : Ref) : Type 0 where
+-- the exception, which was made of the class, holds the text as its message, if its class has one
+pub record KeepsMessage (k : Known) (class : ClassId) (before after : Things) (x text : Ref) : Type 0 where
   pub names : after.names ≡ before.names
   pub contents : (count : ℕ) → count ≤ x.0 → take count after.contents ≡ take count before.contents
-  pub holds : (m : Machine) (others : Others) (w : World) → IsMachine k m → class_of (name_of m.setting.heads before.names x) ≡ name_at k.heads class → Holds m before others w
+  pub holds : (m : Machine) (others : Others) (w : World) (number : ℕ) → IsMachine k m → slice_get before.names x.0 ≡ Some (Made (Class class) number) → Holds m before others w
       → Holds m after others (write_field w (name_of m.setting.heads before.names x) message_field (machine.Reference (name_of m.setting.heads before.names text)))

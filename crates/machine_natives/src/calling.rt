@@ -15,7 +15,6 @@ ghost use Rattle.machine_invocations.specs.Methods.{Sees};
 ghost use Rattle.machine_invocations.specs.Returning.{IsSettledResult};
 ghost use Rattle.machine_invocations.specs.Showing.{AreShown};
 ghost use Rattle.machine_natives.specs.Calls.{values_given, ShowsCall, ComesBack, GoesOut, EndsScript, calls_native};
-ghost use Rattle.machine_natives.specs.Throwables.{HasThrowables};
 
 use crate::responding::respond;
 use crate::response::Response;
@@ -161,7 +160,6 @@ pub fn call_native(
     super_call: bool,
 ) -> Result<Step, AllocError>
     requires runnable { IsRunnable world.now }
-    requires throwables { HasThrowables world.now }
     requires formed { IsFormed world.now state.old }
     requires method { IsMethod world.now method.0 }
     requires receiver { is_known_object (length state.old.heap.names) receiver ≡ true }

@@ -10,7 +10,6 @@ ghost use Rattle.machine_natives.specs.declared.response.Response.TheVariants.{R
 ghost use Rattle.machine_invocations.specs.Returning.{IsSettledResult};
 ghost use Rattle.machine_natives.specs.Closing.{Closes, EndsWith, ending_in, Answers};
 ghost use Rattle.machine_natives.specs.Responses.{IsKnown};
-ghost use Rattle.machine_natives.specs.Throwables.{HasThrowables};
 
 use crate::calling::native_event;
 use crate::responding::respond;
@@ -77,7 +76,6 @@ fn call_entry(
     event: Event,
 ) -> Result<Step, AllocError>
     requires runnable { IsRunnable world.now }
-    requires throwables { HasThrowables world.now }
     requires formed { IsFormed world.now state.old }
     requires method { IsMethod world.now method.0 }
     ensures formed { IsFormed world.now state.new }
@@ -148,7 +146,6 @@ pub fn close(
     script: &mut Script,
 ) -> Result<Step, AllocError>
     requires runnable { IsRunnable world.now }
-    requires throwables { HasThrowables world.now }
     requires formed { IsFormed world.now state.old }
     ensures formed { IsFormed world.now state.new }
     ensures closes { IfOk result (λ step. Closes world.now state.old state.new (answers_left script.old) (answers_left script.new) step) }

@@ -9,7 +9,6 @@ ghost use Rattle.machine_values.specs.Observed.{machine_answer};
 ghost use Rattle.machine_steps.specs.Programs.{IsRunnable};
 ghost use Rattle.machine_natives.specs.declared.response.Response.TheVariants.{Returns, Lacks};
 ghost use Rattle.machine_natives.specs.Responses.{Comes};
-ghost use Rattle.machine_natives.specs.Throwables.{HasThrowables};
 
 use crate::classes::{is_throwable, takes_text};
 use crate::descriptors::is_int_of;
@@ -72,8 +71,7 @@ fn thrown(
     class: &InternalName,
     message: &[u16],
 ) -> Result<Response, AllocError>
-    requires runnable { IsRunnable world.now }
-    requires throwables { HasThrowables world.now }
+    requires { IsRunnable world.now }
     ensures comes { IfOk result (λ response. Comes world.now heap.old (λ cs w. natives.thrown cs w class.now message.now) heap.new response) }
     ensures err { OnErr result (heap.new ≡ heap.old) }
 {
@@ -94,8 +92,7 @@ fn result_of(
     descriptor: &[u8],
     answer: &Answer,
 ) -> Result<Response, AllocError>
-    requires runnable { IsRunnable world.now }
-    requires throwables { HasThrowables world.now }
+    requires { IsRunnable world.now }
     ensures comes { IfOk result (λ response. Comes world.now heap.old (λ cs w. natives.result_of cs w descriptor.now (machine_answer answer.now)) heap.new response) }
     ensures err { OnErr result (heap.new ≡ heap.old) }
 {
@@ -117,8 +114,7 @@ fn end_of(
     world: &World,
     answer: &Answer,
 ) -> Result<Response, AllocError>
-    requires runnable { IsRunnable world.now }
-    requires throwables { HasThrowables world.now }
+    requires { IsRunnable world.now }
     ensures comes { IfOk result (λ response. Comes world.now heap.old (λ cs w. natives.end_of cs w (machine_answer answer.now)) heap.new response) }
     ensures err { OnErr result (heap.new ≡ heap.old) }
 {
@@ -138,8 +134,7 @@ pub(crate) fn fitted(
     result_type: Option<&[u8]>,
     answer: &Answer,
 ) -> Result<Response, AllocError>
-    requires runnable { IsRunnable world.now }
-    requires throwables { HasThrowables world.now }
+    requires { IsRunnable world.now }
     ensures comes { IfOk result (λ response. Comes world.now heap.old (λ cs w. natives.fitted cs w (option_copied result_type.entry) (machine_answer answer.now)) heap.new response) }
     ensures err { OnErr result (heap.new ≡ heap.old) }
 {

@@ -11,12 +11,10 @@ mod descriptors;
 mod fitting;
 mod responding;
 mod response;
-mod throwables;
 mod throwing;
 
 pub use calling::call_native;
 pub use closing::close;
 pub use responding::respond;
 pub use response::Response;
-pub use throwables::has_throwables;
 pub use throwing::make_string;

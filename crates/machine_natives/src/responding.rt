@@ -4,7 +4,6 @@ ghost use Rattle.std.specs.Prelude.{◌≡◌, IfOk, OnErr, if◌then◌else◌,
 ghost use Rattle.machine_steps.specs.Programs.{IsRunnable};
 ghost use Rattle.machine_steps.specs.Runs.{IsMethod, answers_left};
 ghost use Rattle.machine_natives.specs.Responses.{Responds, lacks};
-ghost use Rattle.machine_natives.specs.Throwables.{HasThrowables};
 
 use crate::fitting::fitted;
 use crate::response::Response;
@@ -35,7 +34,6 @@ pub fn respond(
     method: MethodId,
 ) -> Result<Response, AllocError>
     requires runnable { IsRunnable world.now }
-    requires throwables { HasThrowables world.now }
     requires method { IsMethod world.now method.0 }
     ensures responds { IfOk result (λ response. Responds world.now heap.old (answers_left script.old) method.0 heap.new (answers_left script.new) response) }
     ensures answers { script.new.answers ≡ script.old.answers }

@@ -1,13 +1,13 @@
 //! New Strings, and the exceptions that a script throws (JVMS 2.16, 2.8.1).
 
-ghost use Rattle.std.specs.Prelude.{◌≡◌, ◌<◌, true, length, IfOk, OnErr};
-ghost use Rattle.class_heads.specs.Hierarchy.{name_at, is_subtype};
+ghost use Rattle.std.specs.Prelude.{◌≡◌, ◌<◌, length, IfOk, OnErr};
+ghost use Rattle.class_heads.specs.Hierarchy.{name_at};
 ghost use Rattle.class_machine.specs.Natives.{with_message};
-ghost use Rattle.class_machine.specs.Values.{throwable_class};
 ghost use Rattle.class_machine.specs.World as worlds;
+ghost use Rattle.class_machine.specs.World.{is_text_class};
 ghost use Rattle.machine_steps.specs.Programs.{IsRunnable};
 ghost use Rattle.machine_natives.specs.Responses.{Comes};
-ghost use Rattle.machine_natives.specs.Throwables.{HasMessage, HasThrowables, KeepsMessage, Makes, MakesString};
+ghost use Rattle.machine_natives.specs.Throwables.{KeepsMessage, Makes, MakesString};
 
 use crate::classes::string_class;
 use crate::response::Response;
@@ -15,6 +15,7 @@ use aj_names::ClassId;
 use class_world::World;
 use machine_fields::{field_types, message_position};
 use machine_requests::make;
+use machine_steps::class_name;
 use machine_values::{Heap, Ref, Value};
 use std::alloc::{AllocError, Global};
 
@@ -28,29 +29,39 @@ pub fn make_string(heap: &mut Heap, world: &World, units: &[u16]) -> Result<Ref,
     heap.make_text(string_class(world), units)
 }
 
-// A new object of the class, which has no text.
+// Whether the objects of the class have texts.
+fn has_text(class: &[u8]) -> bool
+    ensures { result ≡ is_text_class class.now }
+{
+    class == b"java/lang/String".as_slice()
+        || class == b"java/lang/StringBuffer".as_slice()
+        || class == b"java/lang/StringBuilder".as_slice()
+}
+
+// A new object of the class.
 fn make_exception(
     alloc: Global,
     heap: &mut Heap,
     world: &World,
     class: ClassId,
 ) -> Result<Ref, AllocError>
+    requires runnable { IsRunnable world.now }
     requires class { class.0 < length world.now.heads }
-    requires message { HasMessage world.now class.0 }
     ensures made { IfOk result (λ at. Makes world.now class heap.old heap.new at) }
     ensures err { OnErr result (heap.new ≡ heap.old) }
 {
     let types = field_types(alloc, world, class)?;
-    make(heap, class, false, types.as_slice())
+    let text = has_text(class_name(world, class));
+    make(heap, class, text, types.as_slice())
 }
 
-// The text becomes the message of the exception.
+// The text becomes the message of the exception, which an object of the class has by a place among its
+// fields. A class may be below `Throwable` by an interface alone: its objects are left as they are.
 fn keep_message(heap: &mut Heap, world: &World, class: ClassId, x: Ref, text: Ref)
     requires class { class.0 < length world.now.heads }
-    requires message { HasMessage world.now class.0 }
     requires exception { x.0 < length heap.old.names }
     requires text { text.0 < length heap.old.names }
-    ensures { KeepsMessage world.now class.0 heap.old heap.new x text }
+    ensures { KeepsMessage world.now class heap.old heap.new x text }
 {
     let count = heap.len(x);
     let Some(index) = message_position(world, class) else {
@@ -61,8 +72,8 @@ fn keep_message(heap: &mut Heap, world: &World, class: ClassId, x: Ref, text: Re
     }
 }
 
-/// A new exception of the class, with a new String as its message. A call that fails leaves the heap
-/// as it was.
+/// A new object of the class, with a new String as its message, if it has one. A call that fails
+/// leaves the heap as it was.
 pub(crate) fn throw(
     alloc: Global,
     heap: &mut Heap,
@@ -71,9 +82,7 @@ pub(crate) fn throw(
     message: &[u16],
 ) -> Result<Response, AllocError>
     requires runnable { IsRunnable world.now }
-    requires throwables { HasThrowables world.now }
     requires class { class.0 < length world.now.heads }
-    requires below { is_subtype world.now.heads (name_at world.now.heads class.0) throwable_class ≡ true }
     ensures thrown { IfOk result (λ response. Comes world.now heap.old (λ cs w. with_message message.now (worlds.make cs w (name_at world.now.heads class.0))) heap.new response) }
     ensures err { OnErr result (heap.new ≡ heap.old) }
 {

@@ -1,19 +1,12 @@
-use Rattle.std.proofs.Common.{List, ℕ, sym, ◌∙◌, ap}
+use Rattle.std.proofs.Common.{sym, ◌∙◌}
 use Rattle.std.proofs.lemmas.Result.{IfOk-weaker}
-use Rattle.class_heads.specs.Hierarchy.{is_subtype}
 use Rattle.class_heads.specs.PlaceLaws.{place-named}
-use Rattle.class_machine.specs.Values.{throwable_class}
 use Rattle.machine_natives.proofs.Fits.{thrown_same}
 use Rattle.machine_natives.proofs.Library.{throwable_there}
 use Rattle.machine_natives.proofs.fitting.thrown.Goals as goal
 
 pub unreachable-requires : goal.unreachable-requires
-unreachable-requires c = throwable_there c.args.world.now c.requires.runnable c.args.class.now (sym c.in_ok-is_throwable.ensures ∙ c.if-not-branch.false) (sym c.in_default.ensures.place)
-
-pub throw-requires-clause-below : goal.throw-requires-clause-below
-throw-requires-clause-below c =
-    let heads = c.args.world.now.heads in
-    ap (λ (n : List ℕ). is_subtype heads n throwable_class) (place-named heads c.args.class.now c.in-Some.class.0 (sym c.in-Some.ensures.place)) ∙ sym c.in_ok-is_throwable.ensures ∙ c.if-not-branch.false
+unreachable-requires c = throwable_there c.args.world.now c.requires c.args.class.now (sym c.in_ok-is_throwable.ensures ∙ c.if-not-branch.false) (sym c.in_default.ensures.place)
 
 pub returns-clause-comes : goal.returns-clause-comes
 returns-clause-comes c =
