@@ -5,5 +5,5 @@ pub mod Messages
 pub mod Fits
 pub mod Onward
 pub mod Shown
-pub mod Called
+pub mod Answered
 pub mod Entries

@@ -1,5 +1,5 @@
 -- Calls of native methods.
-use Rattle.std.specs.Prelude.{◌≡◌, ℕ, Bool, List, [], ◌∷◌, map, Option, Some, None}
+use Rattle.std.specs.Prelude.{◌≡◌, ℕ, Bool, true, false, List, [], ◌∷◌, map, Option, Some, None}
 use Rattle.std.specs.Option.{option_map}
 use Rattle.class_world.specs.Tables.{Known}
 use Rattle.class_machine.specs.Classes.{Method}
@@ -7,8 +7,8 @@ use Rattle.class_machine.specs.ClassFiles.{Place, class_code}
 use Rattle.class_machine.specs.Events as events
 use Rattle.class_machine.specs.Machine as machines
 use Rattle.class_machine.specs.Machine.{State, telling, unwound, moved}
-use Rattle.class_machine.specs.Natives.{respond, native_event}
-use Rattle.class_machine.specs.Turn.{Frame, with_receiver, given_back, completes, responded}
+use Rattle.class_machine.specs.Natives.{Response, Lacks, respond, native_event}
+use Rattle.class_machine.specs.Turn.{Frame, Finishes, with_receiver, given_back, completes, responded}
 use Rattle.class_machine.specs.World as worlds
 use Rattle.event_machine.specs.Outcome as outcomes
 use Rattle.machine_values.specs.declared.observed.Event.{Event}
@@ -22,11 +22,15 @@ use Rattle.machine_values.specs.Standing.{name_of, held}
 use Rattle.machine_values.specs.Things.{Things}
 use Rattle.machine_requests.specs.Shares.{Others, Shares}
 use Rattle.machine_steps.specs.declared.step.Step.{Step}
+use Rattle.machine_steps.specs.Executing.{MovesOver}
 use Rattle.machine_steps.specs.Moves.{Turning}
 use Rattle.machine_steps.specs.Programs.{Machine, IsMachine}
 use Rattle.machine_steps.specs.Runs.{Runs, Stepped}
 use Rattle.machine_invocations.specs.Methods.{Sees}
 use Rattle.machine_invocations.specs.Returning.{result_held}
+use Rattle.machine_natives.specs.declared.calling.Called.{Called}
+use Rattle.machine_natives.specs.declared.calling.Called.TheVariants.{Done}
+use Rattle.machine_natives.specs.declared.calling.Called.TheVariants as called
 
 -- ---- the event
 
@@ -70,3 +74,25 @@ calls_native callee receiver given super old m t f =
     responded (class_code m.files) m.setting.classes f f.content super
     (native_event t.world callee.name (with_receiver (option_map (name_of m.setting.heads old.heap.names) receiver) (map (held m.setting.heads old.heap.names) given)))
     (respond m.setting.classes t.world callee.name)
+
+-- ---- what the call comes to
+
+-- the script has no answer that fits
+abbrev pub is_lack : Response → Bool
+is_lack Lacks = true
+is_lack response = false
+
+-- the script had one, and the step is the machine's
+pub record TakesAnswer (k : Known) (old new : MachineState) (before after : List Answer) (callee : Method) (turning : Turning) (step : Step) : Type 0 where
+  pub moves : MovesOver k old new before after step turning
+  pub fits : (m : Machine) (t : State Place) → IsMachine k m → Runs m old before t → is_lack (respond m.setting.classes t.world callee.name) ≡ false
+
+-- it had none: nothing changed, and the machine ends the run after the event
+pub record LacksAnswer (k : Known) (old new : MachineState) (before after : List Answer) (turning : Turning) (event : Event) : Type 0 where
+  pub same : new ≡ old
+  pub answers : after ≡ before
+  pub turn : (m : Machine) (t : State Place) (f : Frame Place) → IsMachine k m → Runs m old before t → turning m t f ≡ Finishes (Some (machine_event event)) events.ScriptEnds
+
+abbrev pub CallsNative : Known → MachineState → MachineState → List Answer → List Answer → Method → Option Ref → List Value → Bool → Called → Type 0
+CallsNative k old new before after callee receiver given super (Done step) = TakesAnswer k old new before after callee (calls_native callee receiver given super old) step
+CallsNative k old new before after callee receiver given super (called.Lacks event) = LacksAnswer k old new before after (calls_native callee receiver given super old) event

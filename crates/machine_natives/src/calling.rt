@@ -3,18 +3,18 @@
 ghost use Rattle.std.specs.Prelude.{◌≡◌, ◌<◌, true, [], length, is_some, IfOk, OnErr};
 ghost use Rattle.std.specs.List.{AllByRecursion};
 ghost use Rattle.class_heads.specs.Hierarchy.{place_of};
+ghost use Rattle.class_world.specs.Tables.{Known};
 ghost use Rattle.class_machine.specs.Classes.{Method};
 ghost use Rattle.class_machine.specs.Values.{class_of};
 ghost use Rattle.machine_values.specs.Observed.{method_reference};
 ghost use Rattle.machine_values.specs.Standing.{name_of, Settled};
 ghost use Rattle.machine_values.specs.States.{is_known_object};
-ghost use Rattle.machine_steps.specs.Executing.{MovesOver};
 ghost use Rattle.machine_steps.specs.Programs.{IsRunnable};
 ghost use Rattle.machine_steps.specs.Runs.{IsMethod, IsFormed, answers_left};
 ghost use Rattle.machine_invocations.specs.Methods.{Sees};
 ghost use Rattle.machine_invocations.specs.Returning.{IsSettledResult};
 ghost use Rattle.machine_invocations.specs.Showing.{AreShown};
-ghost use Rattle.machine_natives.specs.Calls.{values_given, ShowsCall, ComesBack, GoesOut, EndsScript, calls_native};
+ghost use Rattle.machine_natives.specs.Calls.{values_given, ShowsCall, ComesBack, GoesOut, EndsScript, CallsNative};
 
 use crate::responding::respond;
 use crate::response::Response;
@@ -24,6 +24,15 @@ use machine_invocations::{declared, show, take_back};
 use machine_steps::{Step, raise, tell};
 use machine_values::{Ending, Event, Heap, MachineState, Ref, Script, Shown, Value};
 use std::alloc::{AllocError, Global};
+
+/// What a native call comes to.
+#[derive(Drop)]
+pub enum Called {
+    /// The step is done.
+    Done(Step),
+    /// The script has no answer to the call of this event that fits.
+    Lacks(Event),
+}
 
 // The receiver, if there is one, as an event shows it.
 fn shown_receiver(
@@ -134,10 +143,10 @@ fn go_out(state: &mut MachineState, world: &World, event: Event, x: Ref) -> Resu
     Ok(tell(state, event, step))
 }
 
-// The event, and the run ends since the script has no answer that fits.
-fn end_script(state: &mut MachineState, world: &World, event: Event) -> Step
-    requires { IsFormed world.now state.old }
-    ensures formed { IsFormed world.now state.new }
+/// The event of a native call, and the run ends one step later since the script has no answer that
+/// fits.
+pub fn end_script(state: &mut MachineState, event: Event) -> Step
+    ensures formed { (k : Known) → IsFormed k state.old → IsFormed k state.new }
     ensures ends { EndsScript state.old state.new event result }
 {
     tell(state, event, Step::Ended(Ending::ScriptEnds))
@@ -145,8 +154,8 @@ fn end_script(state: &mut MachineState, world: &World, event: Event) -> Step
 
 /// Calls a native method: the step says its event, and the script answers. The running frame, which
 /// waits at its call with the arguments taken, takes the result and goes on behind the call
-/// (`super_call` where that is a this or super call of a constructor), or an exception leaves it;
-/// where the script has no answer that fits, the run ends one step later (JVMS 2.10.3, 3.6.4, 3.10).
+/// (`super_call` where that is a this or super call of a constructor), or an exception leaves it. Where
+/// the script has no answer that fits nothing is done (JVMS 2.10.3, 3.6.4, 3.10).
 ///
 /// # Errors
 /// Where there is no memory; the state and the script are as they were then.
@@ -158,14 +167,14 @@ pub fn call_native(
     receiver: Option<Ref>,
     given: &[Value],
     super_call: bool,
-) -> Result<Step, AllocError>
+) -> Result<Called, AllocError>
     requires runnable { IsRunnable world.now }
     requires formed { IsFormed world.now state.old }
     requires method { IsMethod world.now method.0 }
     requires receiver { is_known_object (length state.old.heap.names) receiver ≡ true }
     requires given { AllByRecursion (Settled (length state.old.heap.names)) given.now }
     ensures formed { IsFormed world.now state.new }
-    ensures moves { IfOk result (λ step. (callee : Method) → Sees world.now method.0 callee → MovesOver world.now state.old state.new (answers_left script.old) (answers_left script.new) step (calls_native callee receiver given.now super_call state.old)) }
+    ensures called { IfOk result (λ called. (callee : Method) → Sees world.now method.0 callee → CallsNative world.now state.old state.new (answers_left script.old) (answers_left script.new) callee receiver given.now super_call called) }
     ensures err { OnErr result (state.new ≡ state.old) }
     ensures script { OnErr result (script.new ≡ script.old) }
 {
@@ -175,15 +184,18 @@ pub fn call_native(
     let next = script.next;
     let response = respond(alloc, &mut state.heap, world, script, method)?;
     match response {
-        Response::Returns(value) => Ok(come_back(state, world, event, super_call, value)),
+        Response::Returns(value) => {
+            let step = come_back(state, world, event, super_call, value);
+            Ok(Called::Done(step))
+        }
         Response::Throws(x) => match go_out(state, world, event, x) {
-            Ok(step) => Ok(step),
+            Ok(step) => Ok(Called::Done(step)),
             Err(failed) => {
                 state.heap.truncate(count);
                 script.next = next;
                 Err(failed)
             }
         },
-        Response::Lacks => Ok(end_script(state, world, event)),
+        Response::Lacks => Ok(Called::Lacks(event)),
     }
 }

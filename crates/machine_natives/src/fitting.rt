@@ -1,6 +1,6 @@
 //! Whether an answer fits the type of a result, and what it gives then (JVMS 2.10.3).
 
-ghost use Rattle.std.specs.Prelude.{◌≡◌, ◌<◌, Some, length, if◌then◌else◌, IfOk, OnErr};
+ghost use Rattle.std.specs.Prelude.{◌≡◌, ◌<◌, true, Some, length, if◌then◌else◌, IfOk, OnErr};
 ghost use Rattle.std.specs.Option.{option_copied};
 ghost use Rattle.class_machine.specs.Descriptors.{class_in};
 ghost use Rattle.class_machine.specs.Natives as natives;
@@ -8,7 +8,7 @@ ghost use Rattle.class_machine.specs.World as worlds;
 ghost use Rattle.machine_values.specs.Observed.{machine_answer};
 ghost use Rattle.machine_steps.specs.Programs.{IsRunnable};
 ghost use Rattle.machine_natives.specs.declared.response.Response.TheVariants.{Returns, Lacks};
-ghost use Rattle.machine_natives.specs.Responses.{Comes};
+ghost use Rattle.machine_natives.specs.Responses.{Comes, lacks};
 
 use crate::classes::{is_throwable, takes_text};
 use crate::descriptors::is_int_of;
@@ -54,6 +54,7 @@ fn text_result(
 ) -> Result<Response, AllocError>
     requires { IsRunnable world.now }
     ensures comes { IfOk result (λ response. Comes world.now heap.old (λ cs w. natives.if_fits (natives.takes_text cs (class_in descriptor.now)) (natives.a_text (worlds.add_text w units.now))) heap.new response) }
+    ensures lacks { IfOk result (λ response. lacks response ≡ true → heap.new ≡ heap.old) }
     ensures err { OnErr result (heap.new ≡ heap.old) }
 {
     if !takes_text(alloc, world, descriptor)? {
@@ -73,6 +74,7 @@ fn thrown(
 ) -> Result<Response, AllocError>
     requires { IsRunnable world.now }
     ensures comes { IfOk result (λ response. Comes world.now heap.old (λ cs w. natives.thrown cs w class.now message.now) heap.new response) }
+    ensures lacks { IfOk result (λ response. lacks response ≡ true → heap.new ≡ heap.old) }
     ensures err { OnErr result (heap.new ≡ heap.old) }
 {
     if !is_throwable(alloc, world, class)? {
@@ -94,6 +96,7 @@ fn result_of(
 ) -> Result<Response, AllocError>
     requires { IsRunnable world.now }
     ensures comes { IfOk result (λ response. Comes world.now heap.old (λ cs w. natives.result_of cs w descriptor.now (machine_answer answer.now)) heap.new response) }
+    ensures lacks { IfOk result (λ response. lacks response ≡ true → heap.new ≡ heap.old) }
     ensures err { OnErr result (heap.new ≡ heap.old) }
 {
     let element = element_of(descriptor);
@@ -116,6 +119,7 @@ fn end_of(
 ) -> Result<Response, AllocError>
     requires { IsRunnable world.now }
     ensures comes { IfOk result (λ response. Comes world.now heap.old (λ cs w. natives.end_of cs w (machine_answer answer.now)) heap.new response) }
+    ensures lacks { IfOk result (λ response. lacks response ≡ true → heap.new ≡ heap.old) }
     ensures err { OnErr result (heap.new ≡ heap.old) }
 {
     match answer {
@@ -136,6 +140,7 @@ pub(crate) fn fitted(
 ) -> Result<Response, AllocError>
     requires { IsRunnable world.now }
     ensures comes { IfOk result (λ response. Comes world.now heap.old (λ cs w. natives.fitted cs w (option_copied result_type.entry) (machine_answer answer.now)) heap.new response) }
+    ensures lacks { IfOk result (λ response. lacks response ≡ true → heap.new ≡ heap.old) }
     ensures err { OnErr result (heap.new ≡ heap.old) }
 {
     match result_type {

@@ -13,7 +13,7 @@ mod responding;
 mod response;
 mod throwing;
 
-pub use calling::call_native;
+pub use calling::{Called, call_native, end_script};
 pub use closing::close;
 pub use responding::respond;
 pub use response::Response;

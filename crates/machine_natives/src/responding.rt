@@ -1,6 +1,6 @@
 //! What the script answers to a call (JVMS 2.10.3).
 
-ghost use Rattle.std.specs.Prelude.{◌≡◌, IfOk, OnErr, if◌then◌else◌, ◌+◌};
+ghost use Rattle.std.specs.Prelude.{◌≡◌, true, IfOk, OnErr, if◌then◌else◌, ◌+◌};
 ghost use Rattle.machine_steps.specs.Programs.{IsRunnable};
 ghost use Rattle.machine_steps.specs.Runs.{IsMethod, answers_left};
 ghost use Rattle.machine_natives.specs.Responses.{Responds, lacks};
@@ -37,6 +37,7 @@ pub fn respond(
     requires method { IsMethod world.now method.0 }
     ensures responds { IfOk result (λ response. Responds world.now heap.old (answers_left script.old) method.0 heap.new (answers_left script.new) response) }
     ensures answers { script.new.answers ≡ script.old.answers }
+    ensures lacks { IfOk result (λ response. lacks response ≡ true → (heap.new ≡ heap.old) × (script.new ≡ script.old)) }
     ensures heap { OnErr result (heap.new ≡ heap.old) }
     ensures err { OnErr result (script.new ≡ script.old) }
 {

@@ -1,12 +1,12 @@
 //! New Strings, and the exceptions that a script throws (JVMS 2.16, 2.8.1).
 
-ghost use Rattle.std.specs.Prelude.{◌≡◌, ◌<◌, length, IfOk, OnErr};
+ghost use Rattle.std.specs.Prelude.{◌≡◌, ◌<◌, false, length, IfOk, OnErr};
 ghost use Rattle.class_heads.specs.Hierarchy.{name_at};
 ghost use Rattle.class_machine.specs.Natives.{with_message};
 ghost use Rattle.class_machine.specs.World as worlds;
 ghost use Rattle.class_machine.specs.World.{is_text_class};
 ghost use Rattle.machine_steps.specs.Programs.{IsRunnable};
-ghost use Rattle.machine_natives.specs.Responses.{Comes};
+ghost use Rattle.machine_natives.specs.Responses.{Comes, lacks};
 ghost use Rattle.machine_natives.specs.Throwables.{KeepsMessage, Makes, MakesString};
 
 use crate::classes::string_class;
@@ -84,6 +84,7 @@ pub(crate) fn throw(
     requires runnable { IsRunnable world.now }
     requires class { class.0 < length world.now.heads }
     ensures thrown { IfOk result (λ response. Comes world.now heap.old (λ cs w. with_message message.now (worlds.make cs w (name_at world.now.heads class.0))) heap.new response) }
+    ensures lacks { IfOk result (λ response. lacks response ≡ false) }
     ensures err { OnErr result (heap.new ≡ heap.old) }
 {
     let count = heap.count();
