@@ -1,7 +1,6 @@
 -- Constants and new arrays, as the machine gives them.
-use Rattle.std.specs.Prelude.{◌≡◌, ℕ, zero, suc, ◌+◌, ◌<◌, ◌≤◌, ◌||◌, Bool, true, false, if◌then◌else◌, List, [], ◌∷◌, ◌++◌, length, Option, Some, None, ℤ, refl}
-use Rattle.std.proofs.Common.{sym, ap, ◌∙◌, subst, arith}
-use Rattle.std.proofs.lemmas.Bool.{false≢true, le-leb}
+use Rattle.std.specs.Prelude.{◌≡◌, ℕ, zero, suc, ◌||◌, Bool, true, false, if◌then◌else◌, List, [], ◌∷◌, ◌++◌, length, Option, Some, None, ℤ, refl}
+use Rattle.std.proofs.Common.{sym, ap, ◌∙◌, subst}
 use Rattle.class_world.specs.Tables.{Known}
 use Rattle.class_machine.specs.declared.kinds.Fault.{Fault}
 use Rattle.class_machine.specs.Answers as answers
@@ -26,10 +25,8 @@ use Rattle.machine_frames.specs.Naming.{Naming}
 use Rattle.machine_values.specs.declared.observed.Ending.TheVariants.{Broken, Unresolved}
 use Rattle.machine_values.specs.declared.state.MachineState.{MachineState}
 use Rattle.machine_values.specs.declared.values.Ref.{Ref}
-use Rattle.machine_values.specs.declared.values.Value.TheVariants.{Int, Null, Reference}
-use Rattle.machine_values.specs.Stacks.{weight}
-use Rattle.machine_values.specs.Standing.{held}
-use Rattle.machine_values.specs.States.{is_known_object}
+use Rattle.machine_values.specs.declared.values.Value.TheVariants.{Int, Reference}
+use Rattle.machine_values.specs.Standing.{held, Settled}
 use Rattle.machine_values.specs.Things.{Things}
 use Rattle.machine_requests.specs.declared.reply.Reply.{Reply}
 use Rattle.machine_requests.specs.Objects.{StaysFilled, Finds}
@@ -45,7 +42,7 @@ use Rattle.machine_steps.specs.Raised.{grown_runs}
 use Rattle.machine_steps.specs.Runs.{Stepped}
 use Rattle.machine_invocations.specs.Methods.{classes_in}
 use Rattle.machine_objects.specs.Taking.{RoomForm, Breaks, IsTakenFrom, Takes}
-use Rattle.machine_objects.specs.Following.{goes_next_with, has_space, CanGive, CannotGive, front_of}
+use Rattle.machine_objects.specs.Following.{goes_next_with, has_space, HasRoom, LacksRoom, front_of}
 use Rattle.machine_objects.specs.Making.{FollowsNew}
 use Rattle.machine_objects.proofs.Asked.{IsForm, breaks_moves, refused_moves, fault_moves}
 use Rattle.machine_objects.proofs.Bare.{bare_types}
@@ -72,19 +69,14 @@ module _ (k : Known) (runnable : IsRunnable k) (old : MachineState) (units : Lis
     refer_turn h true = refl
     refer_turn h false = refl
 
-  pub refer_moves : (new : MachineState) (step : Step) → Moves k mid new step (goes_next_with (λ x u. held x.setting.heads heap.names (Reference at))) → Moves k old new step (executes (Refer (Literal units)))
+  pub refer_moves : (new : MachineState) (step : Step) → (Settled (length heap.names) (Reference at) → Moves k mid new step (goes_next_with (λ x u. held x.setting.heads heap.names (Reference at)))) → Moves k old new step (executes (Refer (Literal units)))
   refer_moves new step moves m left t f below is runs same =
       let there = finds m.setting (others_of old) t.world (distinct_in k m is) runs.shares in
       let runs' = grown_runs m old mid left t t.world refl longer there.shares refl (filled m.setting (bare_types k runnable m is) runs.shares.heap.objects.whole runs.filled) runs in
       let h = machine.Reference (Literal units) in
       let By : turns.Turn Place → Type 0 = λ turn. Stepped m new left step (moved (class_code m.files) m.setting.classes t.due turn t.world f below) in
       subst By (refer_turn m t f h (has_room f.room (held_width h) f.content.operands))
-      (subst (λ (n : machine.Name). By (pushing m t f (machine.Reference n) (has_room f.room (held_width (machine.Reference n)) f.content.operands))) there.named (moves m left t f below is runs' same))
-
-  pub refer_lost : (new : MachineState) → is_known_object (length heap.names) (Some at) ≡ false → Moves k old new (Ended Broken) (executes (Refer (Literal units)))
-  refer_lost new lost m left t f below is runs same =
-      let there = finds m.setting (others_of old) t.world (distinct_in k m is) runs.shares in
-      absurd (false≢true (sym lost ∙ there.within))
+      (subst (λ (n : machine.Name). By (pushing m t f (machine.Reference n) (has_room f.room (held_width (machine.Reference n)) f.content.operands))) there.named (moves there.within m left t f below is runs' same))
 
 -- ---- classes
 
@@ -92,14 +84,14 @@ module _ (k : Known) (runnable : IsRunnable k) (old : MachineState) (class : Lis
   class_form : IsForm (ReferClass class) (reference_form (LoadClass class))
   class_form = record { is = λ s ops ls. refl }
 
-  pub class_breaks : (new : MachineState) → CannotGive old Null → Moves k old new (Ended Broken) (executes (ReferClass class))
-  class_breaks new cannot = breaks_moves k old new (ReferClass class) (reference_form (LoadClass class)) class_form (no_room old (LoadClass class) cannot)
+  pub class_breaks : (new : MachineState) → LacksRoom old → Moves k old new (Ended Broken) (executes (ReferClass class))
+  class_breaks new lacks = breaks_moves k old new (ReferClass class) (reference_form (LoadClass class)) class_form (no_room old (LoadClass class) lacks)
 
-  module _ (mid : MachineState) (same : mid ≡ record old { heap = mid.heap }) (can : CanGive old Null) where
+  module _ (mid : MachineState) (same : mid ≡ record old { heap = mid.heap }) (can : HasRoom old) where
     abbrev from : IsTakenFrom [] old mid
     from = nothing_taken old mid can.some (ap (λ (s : MachineState). s.frames) same)
 
-    room : has_space from.frame Null ≡ true
+    room : has_space from.frame ≡ true
     room = can.room (front_of old) from.frame (split [] old mid from)
 
     asks : (n : Naming) → reference_form (LoadClass class) from.frame.operands.room (operands_of n from.frame) (locals_of n from.frame) ≡ definition.Ask (LoadClass class) (content_of n from.left)
@@ -123,7 +115,7 @@ module _ (k : Known) (runnable : IsRunnable k) (old : MachineState) (class : Lis
               (subst (λ (o : Others). Replies m.setting mid.heap o t.world reply (answers.Gives (machine.Reference (ClassObject name)) t.world)) (sym (ap others_of same)) (answered (others_of old) m.setting t.world (distinct_in k m is) runs.shares));
           filled = filled m.setting (bare_types k runnable m is) runs.shares.heap.objects.whole runs.filled;
           kept = refl;
-        }) follows room
+        }) follows
 
 -- ---- arrays
 
@@ -152,14 +144,6 @@ module _ (k : Known) (runnable : IsRunnable k) (old : MachineState) (class : Lis
         fault_moves k old mid new (NewReferenceArray class) array_form (λ n. MakeArray (Some class) (array_of class) (size ∷ [])) (Int size ∷ []) is_array_form takes.from takes.asks step Fault.NegativeArraySize
         (λ m is. class_free k class m is (sym known))
         (λ m w. ap (λ (b : Bool). if (b || false) then answers.Faults Fault.NegativeArraySize else answers.Gives (make_arrays (array_of class) (size ∷ []) w).0 (make_arrays (array_of class) (size ∷ []) w).1) negative) moves
-
-    narrow : has_space takes.from.left Null ≡ true
-    narrow =
-        let taken = takes.from.taken.taken in
-        let fits : weight takes.from.frame.operands.values ≤ takes.from.frame.operands.room = taken.fits (let e : 0 < 1 = omega arith in e) in
-        let all : weight takes.from.frame.operands.values ≡ 1 + weight takes.from.left.operands.values = ap weight taken.values in
-        let room : takes.from.left.operands.room ≡ takes.from.frame.operands.room = taken.room in
-        le-leb (1 + weight takes.from.left.operands.values) takes.from.left.operands.room (omega arith)
 
     module _ (heap : Things) where
       abbrev after : MachineState
@@ -191,4 +175,4 @@ module _ (k : Known) (runnable : IsRunnable k) (old : MachineState) (class : Lis
             replies = subst (Replies m.setting heap (others_of mid) t.world reply) (array_given m t.world positive) (answered (others_of mid) (Some class) m.setting t.world (distinct_in k m is) shares);
             filled = filled m.setting (bare_types k runnable m is) shares.heap.objects.whole (kept_filled old mid takes.same m left t runs);
             kept = turn_keeps (elements_of (array_of class)) (answers.size_of size) (with_object t.world (next_name t.world (array_of class)) (worlds.Array []));
-          }) follows narrow
+          }) follows

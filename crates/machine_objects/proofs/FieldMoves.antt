@@ -18,7 +18,8 @@ use Rattle.class_machine.specs.Effect.{GetField, PutField}
 use Rattle.class_machine.specs.Operations.{FieldAccess}
 use Rattle.class_machine.specs.Turn.{Free, Link, instance_field, missing_member}
 use Rattle.class_machine.specs.Values as machine
-use Rattle.class_machine.specs.World.{World, read_field, write_field}
+use Rattle.class_machine.specs.World as worlds
+use Rattle.class_machine.specs.World.{World, object_at, read_field, written, write_field}
 use Rattle.machine_frames.specs.Naming.{reference, held as named_value}
 use Rattle.machine_values.specs.declared.observed.Ending.TheVariants.{Unresolved}
 use Rattle.machine_values.specs.declared.names.Name.{Name}
@@ -66,6 +67,10 @@ done_kept : (w : World) (b : Bool) (after : World) → after.answers ≡ w.answe
 done_kept w true after e = e
 done_kept w false after e = tt
 
+written_kept : (w : World) (a : machine.Name) (r : Reference) (v : machine.Held) (object : Option worlds.Object) → (written w a r v object).answers ≡ w.answers
+written_kept w a r v None = refl
+written_kept w a r v (Some object) = refl
+
 get_kept : (cs : Classes) (w : World) (r : Reference) (a : Option machine.Name) → KeepsAnswers w (answer cs w (GetField r a))
 get_kept cs w r None = record { kept = tt }
 get_kept cs w r (Some a) = let q = answers.declared cs r in record { kept = given_kept w (cs.is_subtype (machine.class_of a) q.class) (read_field w a q) }
@@ -73,7 +78,9 @@ get_kept cs w r (Some a) = let q = answers.declared cs r in record { kept = give
 put_kept : (cs : Classes) (w : World) (r : Reference) (a : Option machine.Name) (v : machine.Held) → KeepsAnswers w (answer cs w (PutField r a v))
 put_kept cs w r None v = record { kept = tt }
 put_kept cs w r (Some a) v =
-    let q = answers.declared cs r in record { kept = done_kept w (cs.is_subtype (machine.class_of a) q.class) (write_field w a q (narrowed (element_of q.member.descriptor) v)) refl }
+    let q = answers.declared cs r in
+    let put = narrowed (element_of q.member.descriptor) v in
+    record { kept = done_kept w (cs.is_subtype (machine.class_of a) q.class) (write_field w a q put) (written_kept w a q put (object_at w a)) }
 
 -- ---- reading
 

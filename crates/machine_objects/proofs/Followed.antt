@@ -1,5 +1,5 @@
 -- What becomes of the running frame behind its instruction.
-use Rattle.std.specs.Prelude.{◌≡◌, ℕ, ◌+◌, ◌-◌, ◌≤◌, Bool, true, false, if◌then◌else◌, nat_le, is_some, List, [], ◌∷◌, ◌++◌, length, Option, refl}
+use Rattle.std.specs.Prelude.{◌≡◌, ℕ, ◌+◌, ◌-◌, ◌≤◌, Bool, true, false, if◌then◌else◌, is_some, List, [], ◌∷◌, ◌++◌, length, Option, refl}
 use Rattle.std.specs.Option.{option_map}
 use Rattle.std.specs.List.{AllByRecursion}
 use Rattle.std.proofs.Common.{sym, ap, ◌∙◌, subst, arith, length-append}
@@ -12,23 +12,19 @@ use Rattle.class_machine.specs.Machine as machines
 use Rattle.class_machine.specs.Machine.{State, moved}
 use Rattle.class_machine.specs.Turn as turns
 use Rattle.class_machine.specs.Turn.{stays, stops, fails}
-use Rattle.class_machine.specs.Values as machine
 use Rattle.class_machine.specs.Values.{Held, held_width, Plain, Content, pushed_on, has_room}
 use Rattle.class_machine.specs.World.{World}
 use Rattle.machine_code.specs.declared.method_code.MethodCode as lent
 use Rattle.machine_code.specs.Views.{code_seen}
 use Rattle.machine_frames.specs.Effects.{locals_of}
 use Rattle.machine_frames.specs.Named.{content_of}
-use Rattle.machine_frames.proofs.Pushing.{weight-values}
 use Rattle.machine_values.specs.declared.frames.Frame.{Frame}
 use Rattle.machine_values.specs.declared.names.Name.{Name}
 use Rattle.machine_values.specs.declared.observed.Ending.TheVariants.{Broken}
 use Rattle.machine_values.specs.declared.script.Answer.{Answer}
 use Rattle.machine_values.specs.declared.state.MachineState.{MachineState}
 use Rattle.machine_values.specs.declared.values.Value.{Value}
-use Rattle.machine_values.specs.declared.values.Value.TheVariants.{Int, Long, Float, Double, Null, Reference, Token, ReturnAddress}
-use Rattle.machine_values.specs.Stacks.{width, weight}
-use Rattle.machine_values.specs.Standing.{held}
+use Rattle.machine_values.specs.Standing.{held, Settled}
 use Rattle.machine_values.specs.States.{IsFrameWithin}
 use Rattle.machine_requests.specs.declared.reply.Reply.TheVariants.{Gives, Done, Faults, Refuses}
 use Rattle.machine_requests.specs.Growth.{frame_stays}
@@ -46,7 +42,7 @@ use Rattle.machine_steps.specs.Running.{seen_by, waiting, first_same, all_last, 
 use Rattle.machine_steps.specs.Runs.{Runs, Stepped}
 use Rattle.machine_steps.specs.Within.{frame_more}
 use Rattle.machine_objects.specs.Taking.{IsTakenFrom}
-use Rattle.machine_objects.specs.Following.{TellsNext, goes_next, goes_next_with, CanGive, front_of, replied_step, Follows}
+use Rattle.machine_objects.specs.Following.{TellsNext, goes_next, goes_next_with, front_of, replied_step, Follows}
 
 -- ---- the place behind the instruction
 
@@ -71,21 +67,17 @@ next_gives k old new step pc value tells moves m left t f below is runs same =
 
 -- ---- the frame that lacks what was taken
 
-pub held_width_is : (m : Machine) (names : List Name) (v : Value) → held_width (held m.setting.heads names v) ≡ width v
-held_width_is m names (Int n) = refl
-held_width_is m names (Long n) = refl
-held_width_is m names (Float bits) = refl
-held_width_is m names (Double bits) = refl
-held_width_is m names Null = refl
-held_width_is m names (Reference at) = refl
-held_width_is m names (Token class number) = refl
-held_width_is m names (ReturnAddress pc) = refl
-
 pub stay_same : (m : Machine) (due : machines.Due) (below : List (turns.Frame Place)) (f : turns.Frame Place) (c : Content Place) (b : Bool) (p : Place) (d : Content Place) (after w u : World)
     → moved (class_code m.files) m.setting.classes due (if b then turns.Stays p d after else stops events.Broken) w (record f { content = c }) below
     ≡ moved (class_code m.files) m.setting.classes due (if b then turns.Stays p d after else stops events.Broken) u f below
 stay_same m due below f c true p d after w u = refl
 stay_same m due below f c false p d after w u = refl
+
+given_same : (m : Machine) (due : machines.Due) (below : List (turns.Frame Place)) (f : turns.Frame Place) (c : Content Place) (room b : Bool) (p : Place) (d : Content Place) (after w u : World)
+    → moved (class_code m.files) m.setting.classes due (if room then (if b then turns.Stays p d after else stops events.Broken) else stops events.Broken) w (record f { content = c }) below
+    ≡ moved (class_code m.files) m.setting.classes due (if room then (if b then turns.Stays p d after else stops events.Broken) else stops events.Broken) u f below
+given_same m due below f c true b p d after w u = stay_same m due below f c b p d after w u
+given_same m due below f c false b p d after w u = refl
 
 module _ (vs : List Value) (old mid : MachineState) (from : IsTakenFrom vs old mid) where
   last : length old.frames.items - 1 + 1 ≡ length old.frames.items
@@ -134,28 +126,20 @@ module _ (m : Machine) (left : List Answer) (t : State Place) (vs : List Value) 
       })
       shares (answered ∙ runs.answers) filled
 
-  room_there : (v : Value) → CanGive mid v → has_room seen.room (held_width (held m.setting.heads mid.heap.names v)) kept.operands ≡ true
-  room_there v can =
-      ap (λ n. nat_le (n + machine.weight kept.operands) seen.room) (held_width_is m mid.heap.names v)
-      ∙ ap (λ n. nat_le (width v + n) seen.room) (weight-values (naming_of m old) from.left.method.0 from.left.operands.values)
-      ∙ ap (nat_le (width v + weight from.left.operands.values)) (sym from.taken.taken.room)
-      ∙ can.room (front_of old) from.left (split_after vs old mid from)
-
-  given : (k : Known) (new : MachineState) (step : Step) (v : Value) (h : Held) (w : World) → IsMachine k m → CanGive mid v → Moves k mid new step (goes_next_with (λ x u. held x.setting.heads mid.heap.names v))
+  given : (k : Known) (new : MachineState) (step : Step) (v : Value) (h : Held) (w : World) → IsMachine k m → (Settled (length mid.heap.names) v → Moves k mid new step (goes_next_with (λ x u. held x.setting.heads mid.heap.names v)))
       → Replies m.setting mid.heap (others_of mid) t.world (Gives v) (answers.Gives h w) → AreFilled mid.heap m.setting → w.answers ≡ t.world.answers
       → Stepped m new left step (replied_step m t.due t.world seen kept below (answers.Gives h w))
-  given k new step v h w is can moves replies filled answered =
+  given k new step v h w is moves replies filled answered =
       let code = class_code m.files in
       let cs = m.setting.classes in
       let h0 = held m.setting.heads mid.heap.names v in
       let g = seen_by m mid.heap.names from.left in
       let next = code.next seen.place in
-      let stepped = moves m left (record { frames = g ∷ below; world = w; due = t.due }) g below is (mid_runs w replies.2 answered filled) refl in
+      let stepped = moves replies.1 m left (record { frames = g ∷ below; world = w; due = t.due }) g below is (mid_runs w replies.2 answered filled) refl in
       subst (Stepped m new left step) (
       ap (λ (x : turns.Frame Place). moved code cs t.due (if has_room x.room (held_width h0) x.content.operands then stays code cs (code.next x.place) (pushed_on (Plain h0) x.content) w else stops events.Broken) w x below) frame_as
-      ∙ ap (λ (b : Bool). moved code cs t.due (if b then stays code cs next (pushed_on (Plain h0) kept) w else stops events.Broken) w (record seen { content = kept }) below) (room_there v can)
-      ∙ ap (λ (x : Held). moved code cs t.due (stays code cs next (pushed_on (Plain x) kept) w) w (record seen { content = kept }) below) replies.0
-      ∙ stay_same m t.due below seen kept (is_some (code.line next)) next (pushed_on (Plain h) kept) w w t.world
+      ∙ ap (λ (x : Held). moved code cs t.due (if has_room seen.room (held_width x) kept.operands then stays code cs next (pushed_on (Plain x) kept) w else stops events.Broken) w (record seen { content = kept }) below) replies.0
+      ∙ given_same m t.due below seen kept (has_room seen.room (held_width h) kept.operands) (is_some (code.line next)) next (pushed_on (Plain h) kept) w w t.world
       ) stepped
 
   done : (k : Known) (new : MachineState) (step : Step) (w : World) → IsMachine k m → Moves k mid new step goes_next
@@ -186,11 +170,11 @@ module _ (m : Machine) (left : List Answer) (t : State Place) (vs : List Value) 
 -- ---- replies
 
 module _ (k : Known) (mid new : MachineState) (step : Step) (vs : List Value) where
-  pub follows_gives : (v : Value) → CanGive mid v → Moves k mid new step (goes_next_with (λ x u. held x.setting.heads mid.heap.names v)) → Follows k mid new step (Gives v) vs
-  follows_gives v can moves m left t old (answers.Gives h w) from is runs same longer replies filled answered = given m left t vs old mid from runs same longer k new step v h w is can moves replies filled answered.kept
-  follows_gives v can moves m left t old (answers.Done w) from is runs same longer replies filled answered = absurd replies
-  follows_gives v can moves m left t old (answers.Faults fault) from is runs same longer replies filled answered = absurd replies
-  follows_gives v can moves m left t old answers.Refuses from is runs same longer replies filled answered = absurd replies
+  pub follows_gives : (v : Value) → (Settled (length mid.heap.names) v → Moves k mid new step (goes_next_with (λ x u. held x.setting.heads mid.heap.names v))) → Follows k mid new step (Gives v) vs
+  follows_gives v moves m left t old (answers.Gives h w) from is runs same longer replies filled answered = given m left t vs old mid from runs same longer k new step v h w is moves replies filled answered.kept
+  follows_gives v moves m left t old (answers.Done w) from is runs same longer replies filled answered = absurd replies
+  follows_gives v moves m left t old (answers.Faults fault) from is runs same longer replies filled answered = absurd replies
+  follows_gives v moves m left t old answers.Refuses from is runs same longer replies filled answered = absurd replies
 
   pub follows_done : Moves k mid new step goes_next → Follows k mid new step Done vs
   follows_done moves m left t old (answers.Done w) from is runs same longer replies filled answered = done m left t vs old mid from runs same longer k new step w is moves replies filled answered.kept

@@ -5,6 +5,7 @@ pub mod Followed
 pub mod Asked
 pub mod Unchanged
 pub mod Found
+pub mod Lacking
 pub mod Places
 pub mod FieldMoves
 pub mod TypeMoves

@@ -1,7 +1,6 @@
 -- New references on the operands.
-use Rattle.std.specs.Prelude.{◌≡◌, suc, ◌+◌, ◌-◌, ◌<◌, Bool, true, false, if◌then◌else◌, nat_le, List, [], ◌∷◌, ◌++◌, length, slice_get, Some, ◌⊎◌, refl}
+use Rattle.std.specs.Prelude.{◌≡◌, suc, ◌+◌, ◌-◌, ◌<◌, Bool, true, if◌then◌else◌, nat_le, List, [], ◌∷◌, ◌++◌, length, slice_get, Some, ◌⊎◌, refl}
 use Rattle.std.proofs.Common.{sym, ap, ◌∙◌, subst, arith, inl, inr}
-use Rattle.std.proofs.lemmas.Bool.{cases_Bool}
 use Rattle.class_world.specs.Tables.{Known}
 use Rattle.class_machine.specs.declared.kinds.Kind.{Kind}
 use Rattle.class_machine.specs.Answers as answers
@@ -22,8 +21,6 @@ use Rattle.machine_values.specs.declared.frames.Frame.{Frame}
 use Rattle.machine_values.specs.declared.script.Answer.{Answer}
 use Rattle.machine_values.specs.declared.state.MachineState.{MachineState}
 use Rattle.machine_values.specs.declared.values.Value.{Value}
-use Rattle.machine_values.specs.declared.values.Value.TheVariants.{Null}
-use Rattle.machine_values.specs.Stacks.{width, weight}
 use Rattle.machine_requests.specs.declared.reply.Reply.{Reply}
 use Rattle.machine_requests.specs.declared.reply.Reply.TheVariants.{Gives, Done, Faults, Refuses}
 use Rattle.machine_requests.specs.Objects.{AreFilled}
@@ -38,31 +35,26 @@ use Rattle.machine_steps.specs.Running.{seen_by, waiting, first_same, frames_are
 use Rattle.machine_steps.specs.Runs.{Runs, Stepped}
 use Rattle.class_machine.specs.Operations.{Operation}
 use Rattle.machine_objects.specs.Taking.{RoomForm, Breaks, IsTakenFrom}
-use Rattle.machine_objects.specs.Following.{goes_next_with, has_space, CanGive, CannotGive, front_of}
+use Rattle.machine_objects.specs.Following.{goes_next_with, has_space, LacksRoom, front_of}
 use Rattle.machine_objects.specs.Making.{FollowsNew}
 use Rattle.machine_objects.proofs.Taken.{no_frame}
-use Rattle.machine_objects.proofs.Followed.{held_width_is, split, split_after, follows_gives}
+use Rattle.machine_objects.proofs.Followed.{split, follows_gives}
 use Rattle.machine_objects.proofs.Asked.{IsForm, free_turn}
 use Rattle.machine_objects.proofs.Vectors.{item_same}
-use Rattle.machine_values.specs.Standing.{held}
+use Rattle.machine_values.specs.Standing.{held, Settled}
 
 -- ---- what becomes of the reply
 
 module _ (k : Known) (mid new : MachineState) (step : Step) (vs : List Value) where
-  pub new_given : (v : Value) → CanGive mid v → Moves k mid new step (goes_next_with (λ x u. held x.setting.heads mid.heap.names v)) → FollowsNew k mid new step (Gives v) vs
-  new_given v can moves m left t old a w from is runs same longer replies filled kept room =
-      follows_gives k mid new step vs v can moves m left t old (answers.Gives (machine.Reference a) w) from is runs same longer replies filled (record { kept = kept })
-
-  pub new_cannot : (v : Value) → CannotGive mid v → FollowsNew k mid new step (Gives v) vs
-  new_cannot v cannot m left t old a w from is runs same longer replies filled kept room =
-      let narrow : width v ≡ width Null = sym (held_width_is m mid.heap.names v) ∙ ap held_width replies.0 in
-      absurd (cannot (front_of old) from.left (split_after vs old mid from) replies.1 (ap (λ n. nat_le (n + weight from.left.operands.values) from.left.operands.room) narrow ∙ room))
+  pub new_given : (v : Value) → (Settled (length mid.heap.names) v → Moves k mid new step (goes_next_with (λ x u. held x.setting.heads mid.heap.names v))) → FollowsNew k mid new step (Gives v) vs
+  new_given v moves m left t old a w from is runs same longer replies filled kept =
+      follows_gives k mid new step vs v moves m left t old (answers.Gives (machine.Reference a) w) from is runs same longer replies filled (record { kept = kept })
 
   pub new_other : (reply : Reply) → ((v : Value) → reply ≡ Gives v → ⊥) → FollowsNew k mid new step reply vs
-  new_other (Gives v) other m left t old a w from is runs same longer replies filled kept room = absurd (other v refl)
-  new_other Done other m left t old a w from is runs same longer replies filled kept room = absurd replies
-  new_other (Faults f) other m left t old a w from is runs same longer replies filled kept room = absurd replies
-  new_other Refuses other m left t old a w from is runs same longer replies filled kept room = absurd replies
+  new_other (Gives v) other m left t old a w from is runs same longer replies filled kept = absurd (other v refl)
+  new_other Done other m left t old a w from is runs same longer replies filled kept = absurd replies
+  new_other (Faults f) other m left t old a w from is runs same longer replies filled kept = absurd replies
+  new_other Refuses other m left t old a w from is runs same longer replies filled kept = absurd replies
 
 -- ---- the step
 
@@ -80,8 +72,8 @@ pub new_moves : (k : Known) (old mid new : MachineState) (operation : Operation)
     → (step : Step) (reply : Reply) → mid ≡ record old { frames = mid.frames; heap = mid.heap } → IsLonger old.heap mid.heap
     → ((m : Machine) → IsMachine k m → asked_link (class_code m.files) m.setting.classes (request (naming_of m old)) ≡ Free)
     → ((m : Machine) (left : List Answer) (t : State Place) → IsMachine k m → Runs m old left t → New m mid t reply (request (naming_of m old)))
-    → FollowsNew k mid new step reply vs → has_space from.left Null ≡ true → Moves k old new step (executes operation)
-new_moves k old mid new operation form request vs is from asks step reply same longer free given follows room =
+    → FollowsNew k mid new step reply vs → Moves k old new step (executes operation)
+new_moves k old mid new operation form request vs is from asks step reply same longer free given follows =
     moves_at k old new step (executes operation) (front_of old) from.frame (split vs old mid from) (λ m left t there runs.
     let a = given m left t there runs in
     let f = seen_by m old.heap.names from.frame in
@@ -90,7 +82,7 @@ new_moves k old mid new operation form request vs is from asks step reply same l
     free_turn m f t.world operation form is (request (naming_of m old)) c (asks (naming_of m old)) (free m there)
     ∙ ap (replied (class_code m.files) m.setting.classes f c t.world) a.is
     ))
-    (follows m left t old a.name a.after from there runs same longer a.replies a.filled a.kept room))
+    (follows m left t old a.name a.after from there runs same longer a.replies a.filled a.kept))
 
 -- ---- room for a reference
 
@@ -106,25 +98,24 @@ last_of : {X : Type 0} (xs : List X) → (length xs ≡ 0) ⊎ ((rest : List X) 
 last_of [] = inl refl
 last_of (x ∷ xs) = one_more x xs (last_of xs)
 
-pub room_is : (n : Naming) (f : Frame) → has_room f.operands.room (kind_width Kind.Reference) (operands_of n f) ≡ has_space f Null
+pub room_is : (n : Naming) (f : Frame) → has_room f.operands.room (kind_width Kind.Reference) (operands_of n f) ≡ has_space f
 room_is n f = ap (λ w. nat_le (1 + w) f.operands.room) (weight-values n f.method.0 f.operands.values)
 
 -- what asks only where there is room for a reference
 abbrev pub reference_form : definition.Request → RoomForm
 reference_form request room ops ls = definition.room_for room Kind.Reference ops (definition.Ask request (content ops ls))
 
-pub no_room : (old : MachineState) (request : definition.Request) → CannotGive old Null → Breaks (reference_form request) old
-no_room old request cannot m left t f below runs same = by (last_of old.frames.items) where
+pub no_room : (old : MachineState) (request : definition.Request) → LacksRoom old → Breaks (reference_form request) old
+no_room old request lacks m left t f below runs same = by (last_of old.frames.items) where
   by : (length old.frames.items ≡ 0) ⊎ ((rest : List Frame) × (x : Frame) × (old.frames.items ≡ rest ++ x ∷ [])) → reference_form request f.room f.content.operands f.content.locals ≡ definition.Broken
   by (inl none) = absurd (no_frame old m left t f below none runs same)
   by (inr found) =
       let x = found.1 in
       let e : seen_by m old.heap.names x ≡ f = first_same _ _ _ _ (sym (frames_are m old left t found.0 x runs found.2) ∙ same) in
-      let full : has_space x Null ≡ false = elim (cases_Bool (has_space x Null)) [ inl fits ↦ absurd (cannot found.0 x found.2 refl fits) | inr lacks ↦ lacks ] in
       subst (λ (g : turns.Frame Place). reference_form request g.room g.content.operands g.content.locals ≡ definition.Broken) e
-      (ap (λ (b : Bool). if b then definition.Ask request (content_of (naming_of m old) x) else definition.Broken) (room_is (naming_of m old) x ∙ full))
+      (ap (λ (b : Bool). if b then definition.Ask request (content_of (naming_of m old) x) else definition.Broken) (room_is (naming_of m old) x ∙ lacks found.0 x found.2))
 
-pub some_room : (n : Naming) (f : Frame) (request : definition.Request) → has_space f Null ≡ true → reference_form request f.operands.room (operands_of n f) (locals_of n f) ≡ definition.Ask request (content_of n f)
+pub some_room : (n : Naming) (f : Frame) (request : definition.Request) → has_space f ≡ true → reference_form request f.operands.room (operands_of n f) (locals_of n f) ≡ definition.Ask request (content_of n f)
 some_room n f request room = ap (λ (b : Bool). if b then definition.Ask request (content_of n f) else definition.Broken) (room_is n f ∙ room)
 
 -- ---- nothing is taken

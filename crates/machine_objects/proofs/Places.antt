@@ -31,7 +31,7 @@ use Rattle.machine_values.specs.declared.names.Name.TheVariants.{Made, Literal, 
 use Rattle.machine_values.specs.declared.content.Content.{Content}
 use Rattle.machine_values.specs.declared.content.Content.TheVariants.{Values, Text, Fixed}
 use Rattle.machine_values.specs.Standing.{name_in, name_of, held}
-use Rattle.machine_values.specs.Things.{Things, values_of}
+use Rattle.machine_values.specs.Things.{Things, values_of, values_at}
 use Rattle.machine_requests.specs.declared.reply.Reply.{Reply}
 use Rattle.machine_requests.specs.declared.reply.Reply.TheVariants.{Gives, Done, Faults, Refuses}
 use Rattle.machine_requests.specs.Objects.{fields_in, fields_at, field_place, HasField, HoldsSuch, IsBelow, AreFilled}
@@ -46,6 +46,7 @@ use Rattle.machine_fields.specs.Settings.{world_setting}
 use Rattle.machine_steps.specs.Programs.{Machine, IsMachine}
 use Rattle.machine_invocations.specs.Standards.{machine_of, by_machine}
 use Rattle.machine_objects.specs.Fields.{IsInstanceField, HasPlace, LacksField, Reads, IsWriting, Writes}
+use Rattle.machine_objects.proofs.Lacking.{writes_nothing}
 
 -- ---- places
 
@@ -135,32 +136,48 @@ module _ (k : Known) (r : Reference) (class position : ℕ) (field : IsInstanceF
   }
 
   -- where the object's class lacks the field
+  lacks_place : (things : Things) (others : Others) (w : World) (at : Ref) → at.0 < length things.names → length (values_at things at.0) < 2 ^ 32 → HasPlace k things at class position None → IsMachine k (machine_of k fields methods)
+      → Shares setting things others w → AreFilled things setting → field_place (setting.classes.fields (class_of (name_of k.heads things.names at))) own ≡ None
+  lacks_place things others w at known few place is shares filled = none (field_place (setting.classes.fields (class_of (name_of k.heads things.names at))) own) refl where
+    none : (o : Option ℕ) → field_place (setting.classes.fields (class_of (name_of k.heads things.names at))) own ≡ o → o ≡ None
+    none None e = refl
+    none (Some p) e =
+        let past : 2 ^ 32 ≤ p = place (machine_of k fields methods) others w field.head field.field is shares filled field.at field.stands p e in
+        let below = place_below (setting.classes.fields (class_of (name_of k.heads things.names at))) own p e in
+        let each = filled.each at.0 known in
+        let most = few_fields (slice_get things.names at.0) (slice_get things.contents at.0) in
+        absurd (omega arith)
+
+  -- it reads as null
   pub lacking : (things : Things) (others : Others) (w : World) (at : Ref) (name : List ℕ) (instance : Bool) (reply : Reply) → at.0 < length things.names → name ≡ name_at k.heads class → IsBelow things (Some at) name instance (world_setting k)
       → HasPlace k things at class position None → LacksField things at.0 instance reply → IsMachine k (machine_of k fields methods) → Shares setting things others w → AreFilled things setting
       → Replies setting things others w reply (answer setting.classes w (GetField r (Some (name_of k.heads things.names at))))
   lacking things others w at name instance reply known named below place lacks is shares filled =
       let a = name_of k.heads things.names at in
       let is_below : setting.classes.is_subtype (class_of a) own.class ≡ instance = ap (setting.classes.is_subtype (class_of a)) (sym class_is ∙ sym named) ∙ below.is at refl in
-      let nothing : field_place (setting.classes.fields (class_of a)) own ≡ None = none (field_place (setting.classes.fields (class_of a)) own) refl in
-      let null : read_field w a own ≡ machine.Null = read_none setting things others w at.0 own is.distinct shares known nothing in
+      let null : read_field w a own ≡ machine.Null = read_none setting things others w at.0 own is.distinct shares known (lacks_place things others w at known lacks.few place is shares filled) in
       subst (λ (x : Reply). Replies setting things others w x (answers.get_field setting.classes w (declared setting.classes r) a)) (sym lacks.is)
       (subst (λ (q : Reference). Replies setting things others w (if instance then Gives Null else Refuses) (answers.get_field setting.classes w q a)) (sym declared_is)
       (subst (λ (b : Bool). Replies setting things others w (if instance then Gives Null else Refuses) (if b then answers.Gives (read_field w a own) w else answers.Refuses)) (sym is_below)
       (by instance null))) where
-        none : (o : Option ℕ) → field_place (setting.classes.fields (class_of (name_of k.heads things.names at))) own ≡ o → o ≡ None
-        none None e = refl
-        none (Some p) e =
-            let past : 2 ^ 32 ≤ p = place (machine_of k fields methods) others w field.head field.field is shares filled field.at field.stands p e in
-            let below = place_below (setting.classes.fields (class_of (name_of k.heads things.names at))) own p e in
-            let each = filled.each at.0 known in
-            let most = few_fields (slice_get things.names at.0) (slice_get things.contents at.0) in
-            let few = lacks.few in
-            absurd (omega arith)
-
         by : (b : Bool) → read_field w (name_of k.heads things.names at) own ≡ machine.Null
             → Replies setting things others w (if b then Gives Null else Refuses) (if b then answers.Gives (read_field w (name_of k.heads things.names at) own) w else answers.Refuses)
         by true e = (sym e, refl, shares)
         by false e = tt
+
+  -- it is written nowhere
+  pub unwritten : (things : Things) (others : Others) (w : World) (at : Ref) (v : Value) (name : List ℕ) → at.0 < length things.names → name ≡ name_at k.heads class → IsBelow things (Some at) name true (world_setting k)
+      → HasPlace k things at class position None → length (values_at things at.0) < 2 ^ 32 → IsMachine k (machine_of k fields methods) → Shares setting things others w → AreFilled things setting
+      → Replies setting things others w Done (answer setting.classes w (PutField r (Some (name_of k.heads things.names at)) (held k.heads things.names v)))
+  unwritten things others w at v name known named below place few is shares filled =
+      let a = name_of k.heads things.names at in
+      let h = held k.heads things.names v in
+      let put = narrowed (element_of own.member.descriptor) h in
+      let is_below : setting.classes.is_subtype (class_of a) own.class ≡ true = ap (setting.classes.is_subtype (class_of a)) (sym class_is ∙ sym named) ∙ below.is at refl in
+      let same : write_field w a own put ≡ w = writes_nothing setting things others w is.distinct shares at.0 own put (lacks_place things others w at known few place is shares filled) known in
+      subst (λ (q : Reference). Replies setting things others w Done (answers.put_field setting.classes w q a h)) (sym declared_is)
+      (subst (λ (b : Bool). Replies setting things others w Done (if b then answers.Done (write_field w a own put) else answers.Refuses)) (sym is_below)
+      (subst (Shares setting things others) (sym same) shares))
 
 -- ---- reading
 
@@ -206,6 +223,19 @@ module _ (k : Known) (before after : Things) (class position : ℕ) (descriptor 
               (subst (λ (b : Bool). Replies s after others w Refuses (if b then answers.Done (write_field w a q (narrowed (element_of q.member.descriptor) (held k.heads before.names v))) else answers.Refuses)) (sym not_below) tt);
           filled = subst (λ (x : Things). AreFilled x s) (sym same) filled';
         }) is shares filled
+
+  -- where the object's class lacks the field
+  pub writes_lacking : (AreDistinct k.heads → AreFit (length k.heads) before.names → IsBelow before (Some at) name true (world_setting k)) → at.0 < length before.names → HasPlace k before at class position None → length (values_at before at.0) < 2 ^ 32
+      → after ≡ before → Writes k before after class position descriptor at v Done
+  writes_lacking below known place few same m others w r is field typed shares filled =
+      by_machine k (λ x. Shares x.setting before others w → AreFilled before x.setting → IsWriting x before after others w r at v Done) m
+      (λ fields methods is' shares' filled'.
+      let s = (machine_of k fields methods).setting in
+      record {
+        replies = subst (λ (x : Things). Replies s x others w Done (answer s.classes w (PutField r (Some (name_of k.heads before.names at)) (held k.heads before.names v)))) (sym same)
+            (unwritten k r class position field fields methods before others w at v name known named (below is'.distinct shares'.fit) place few is' shares' filled');
+        filled = subst (λ (x : Things). AreFilled x s) (sym same) filled';
+      }) is shares filled
 
   -- neither a value nor an exception is the machine's answer
   pub done_or_refused : (s : Setting) (others : Others) (w : World) (reply : Reply) (b : Bool) (done : World) → Replies s after others w reply (if b then answers.Done done else answers.Refuses) → (reply ≡ Done → ⊥) → Replies s after others w Refuses (if b then answers.Done done else answers.Refuses)

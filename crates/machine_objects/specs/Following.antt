@@ -1,5 +1,5 @@
 -- What becomes of the running frame behind its instruction.
-use Rattle.std.specs.Prelude.{◌≡◌, ℕ, ◌-◌, ◌+◌, ◌<◌, Bool, true, nat_le, if◌then◌else◌, List, ◌∷◌, ◌++◌, [], take, length}
+use Rattle.std.specs.Prelude.{◌≡◌, ℕ, ◌-◌, ◌+◌, ◌<◌, Bool, true, false, nat_le, if◌then◌else◌, List, ◌∷◌, ◌++◌, [], take, length}
 use Rattle.class_world.specs.Tables.{Known}
 use Rattle.class_machine.specs.Answers as answers
 use Rattle.class_machine.specs.ClassFiles.{Place, place_in, class_code}
@@ -15,8 +15,7 @@ use Rattle.machine_values.specs.declared.frames.Frame.{Frame}
 use Rattle.machine_values.specs.declared.script.Answer.{Answer}
 use Rattle.machine_values.specs.declared.state.MachineState.{MachineState}
 use Rattle.machine_values.specs.declared.values.Value.{Value}
-use Rattle.machine_values.specs.Stacks.{width, weight}
-use Rattle.machine_values.specs.Standing.{Settled}
+use Rattle.machine_values.specs.Stacks.{weight}
 use Rattle.machine_requests.specs.declared.reply.Reply.{Reply}
 use Rattle.machine_requests.specs.Objects.{AreFilled}
 use Rattle.machine_requests.specs.Replies.{Replies, IsLonger}
@@ -49,18 +48,16 @@ goes_next_with value m t f =
 
 -- ---- room
 
--- the frame has room for the value
-abbrev pub has_space : Frame → Value → Bool
-has_space f v = nat_le (width v + weight f.operands.values) f.operands.room
+-- the frame has room for a reference
+abbrev pub has_space : Frame → Bool
+has_space f = nat_le (1 + weight f.operands.values) f.operands.room
 
--- a value that the running frame has room for
-pub record CanGive (state : MachineState) (v : Value) : Type 0 where
-  pub settled : Settled (length state.heap.names) v
+pub record HasRoom (state : MachineState) : Type 0 where
   pub some : 0 < length state.frames.items
-  pub room : (rest : List Frame) (f : Frame) → state.frames.items ≡ rest ++ f ∷ [] → has_space f v ≡ true
+  pub room : (rest : List Frame) (f : Frame) → state.frames.items ≡ rest ++ f ∷ [] → has_space f ≡ true
 
-abbrev pub CannotGive : MachineState → Value → Type 0
-CannotGive state v = (rest : List Frame) (f : Frame) → state.frames.items ≡ rest ++ f ∷ [] → Settled (length state.heap.names) v → has_space f v ≡ true → ⊥
+abbrev pub LacksRoom : MachineState → Type 0
+LacksRoom state = (rest : List Frame) (f : Frame) → state.frames.items ≡ rest ++ f ∷ [] → has_space f ≡ false
 
 -- ---- replies
 

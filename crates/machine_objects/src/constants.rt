@@ -8,10 +8,9 @@ ghost use Rattle.machine_steps.specs.Moves.{Moves};
 ghost use Rattle.machine_steps.specs.Programs.{IsRunnable};
 ghost use Rattle.machine_steps.specs.Runs.{IsFormed};
 
-use crate::going::{can_give, give_new, give_next};
+use crate::going::{give_new, give_next, has_room};
 use crate::missing::missing_class;
 use crate::named::is_known_class;
-use crate::taking::is_there;
 use crate::type_names::type_named;
 use class_world::World;
 use machine_requests::{class_object, literal};
@@ -31,11 +30,7 @@ pub fn refer(state: &mut MachineState, world: &World, units: &[u16]) -> Result<S
     ensures err { OnErr result (state.new ≡ state.old) }
 {
     let at = literal(&mut state.heap, units)?;
-    if is_there(&state.heap, Some(at)) {
-        Ok(give_next(state, world, Value::Reference(at)))
-    } else {
-        Ok(Step::Ended(Ending::Broken))
-    }
+    Ok(give_next(state, world, Value::Reference(at)))
 }
 
 /// Pushes the object that stands for the class or array type (JVMS 6, `ldc`).
@@ -53,7 +48,7 @@ pub fn refer_class(
     ensures moves { IfOk result (λ step. Moves world.now state.old state.new step (executes (ReferClass class.now))) }
     ensures err { OnErr result (state.new ≡ state.old) }
 {
-    if !can_give(state, Value::Null) {
+    if !has_room(state) {
         return Ok(Step::Ended(Ending::Broken));
     }
     if !is_known_class(world, class) {

@@ -50,11 +50,11 @@ pub fn get_field(
     follow(state, world, reply, &taken)
 }
 
-/// Gives the field of an object the value on top (JVMS 6, `putfield`).
+/// Gives the field of an object the value on top (JVMS 6, `putfield`). Where objects of the class have
+/// no such field, as one that an interface declares, nothing is written.
 ///
 /// # Errors
-/// Where there is no memory; the state is as it was then. So it is where objects of the class have no
-/// place for the field: an interface that declares a field of objects gives them none.
+/// Where there is no memory; the state is as it was then.
 pub fn put_field(
     state: &mut MachineState,
     world: &World,
@@ -79,12 +79,9 @@ pub fn put_field(
         restore(state, &taken);
         return fail(state, world, Fault::NullPointer);
     };
-    match write(world, &mut state.heap, found, descriptor, at, written.value) {
-        Some(true) => Ok(go_on_next(state, world)),
-        Some(false) => Ok(Step::Ended(Ending::Broken)),
-        None => {
-            restore(state, &taken);
-            Err(AllocError)
-        }
+    if write(world, &mut state.heap, found, descriptor, at, written.value) {
+        Ok(go_on_next(state, world))
+    } else {
+        Ok(Step::Ended(Ending::Broken))
     }
 }

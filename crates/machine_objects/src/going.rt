@@ -8,7 +8,7 @@ ghost use Rattle.machine_values.specs.Standing.{held, Settled};
 ghost use Rattle.machine_steps.specs.Moves.{Moves};
 ghost use Rattle.machine_steps.specs.Programs.{IsRunnable};
 ghost use Rattle.machine_steps.specs.Runs.{IsFormed};
-ghost use Rattle.machine_objects.specs.Following.{TellsNext, goes_next, goes_next_with, CanGive, CannotGive, IsLacking, Follows};
+ghost use Rattle.machine_objects.specs.Following.{TellsNext, goes_next, goes_next_with, HasRoom, LacksRoom, IsLacking, Follows};
 ghost use Rattle.machine_objects.specs.Making.{FollowsNew};
 ghost use Rattle.machine_objects.specs.Taking.{IsTakenFrom};
 
@@ -52,22 +52,24 @@ pub(crate) fn go_on_next(state: &mut MachineState, world: &World) -> Step
 pub(crate) fn give_next(state: &mut MachineState, world: &World, value: Value) -> Step
     requires runnable { IsRunnable world.now }
     requires formed { IsFormed world.now state.old }
-    requires settled { Settled (length state.old.heap.names) value }
     ensures formed { IsFormed world.now state.new }
-    ensures moves { Moves world.now state.old state.new result (goes_next_with (λ m t. held m.setting.heads state.old.heap.names value)) }
+    ensures moves { Settled (length state.old.heap.names) value → Moves world.now state.old state.new result (goes_next_with (λ m t. held m.setting.heads state.old.heap.names value)) }
 {
+    if !is_settled(&state.heap, value) {
+        return Step::Ended(Ending::Broken);
+    }
     let pc = next_place(state, world);
     give(state, world, value, pc)
 }
 
-/// Whether it is a value that the running frame has room for.
-pub(crate) fn can_give(state: &MachineState, value: Value) -> bool
-    ensures { MatchBool result (CanGive state.now value) (CannotGive state.now value) }
+/// Whether the running frame has room for a reference.
+pub(crate) fn has_room(state: &MachineState) -> bool
+    ensures { MatchBool result (HasRoom state.now) (LacksRoom state.now) }
 {
     let Some(top) = top_of(state) else {
         return false;
     };
-    is_settled(&state.heap, value) && state.frames[top].operands.has_room(value.width())
+    state.frames[top].operands.has_room(1)
 }
 
 /// The running frame goes on behind its instruction with the new reference on top that the reply gives.
@@ -80,19 +82,15 @@ pub(crate) fn give_new(state: &mut MachineState, world: &World, reply: Reply) ->
     let Reply::Gives(value) = reply else {
         return Step::Ended(Ending::Broken);
     };
-    if can_give(state, value) {
-        give_next(state, world, value)
-    } else {
-        Step::Ended(Ending::Broken)
-    }
+    give_next(state, world, value)
 }
 
 /// The running frame, from which these values were taken, the last one topmost, goes on with the reply
-/// (JVMS 3.10, 6). An exception is thrown from the frame as it was.
+/// (JVMS 3.10, 6). An exception is thrown from the frame as it was. Where there is no room for what is
+/// given the run is Broken.
 ///
 /// # Errors
-/// Where there is no memory; the frame is as it was then. So it is where a field has a value that takes
-/// more room than its type has: none does.
+/// Where there is no memory; the frame is as it was then.
 pub(crate) fn follow(
     state: &mut MachineState,
     world: &World,
@@ -107,13 +105,7 @@ pub(crate) fn follow(
     ensures err { OnErr result ((before : StateOf) → IsTakenFrom (reverse taken.now) before state.old → state.new ≡ record state.old { frames = before.frames }) }
 {
     match reply {
-        Reply::Gives(value) => {
-            if can_give(state, value) {
-                return Ok(give_next(state, world, value));
-            }
-            restore(state, taken);
-            Err(AllocError)
-        }
+        Reply::Gives(value) => Ok(give_next(state, world, value)),
         Reply::Done => Ok(go_on_next(state, world)),
         Reply::Faults(fault) => {
             restore(state, taken);

@@ -1,9 +1,8 @@
 //! Fields of the objects of a heap, by the classes that declare them (JVMS 2.9.1).
 
-ghost use Rattle.std.specs.Prelude.{◌≡◌, ◌<◌, Some, true, length, IfSome, IsNone, is_some};
+ghost use Rattle.std.specs.Prelude.{◌≡◌, ◌<◌, true, length};
 ghost use Rattle.machine_values.specs.Standing.{Settled};
 ghost use Rattle.machine_values.specs.States.{is_known_object};
-ghost use Rattle.machine_requests.specs.declared.reply.Reply.TheVariants.{Done, Refuses};
 ghost use Rattle.machine_objects.specs.Fields.{HasPlace, LacksField, Reads, Writes, written_reply};
 
 use crate::named::Declared;
@@ -57,8 +56,8 @@ pub(crate) fn read(world: &World, heap: &Heap, found: Declared, object: Option<R
 }
 
 /// Gives the field of the object, which is of the descriptor, another value, and says whether the
-/// object is one of the class that declares the field. None, where the object's class lacks the field,
-/// as one that an interface declares, or has 2^32 fields before it: nothing is done then.
+/// object is one of the class that declares the field. Where the object's class lacks the field, as one
+/// that an interface declares, nothing is done.
 pub(crate) fn write(
     world: &World,
     heap: &mut Heap,
@@ -66,23 +65,23 @@ pub(crate) fn write(
     descriptor: &[u8],
     at: Ref,
     value: Value,
-) -> Option<bool>
+) -> bool
     requires known { at.0 < length heap.old.names }
     requires settled { Settled (length heap.old.names) value }
     requires within { found.class.0 < length world.now.heads }
-    ensures written { IfSome result (λ done. Writes world.now heap.old heap.new found.class.0 found.position descriptor.now at value (written_reply done)) }
+    ensures written { Writes world.now heap.old heap.new found.class.0 found.position descriptor.now at value (written_reply result) }
     ensures names { heap.new.names ≡ heap.old.names }
-    ensures none { IsNone result → heap.new ≡ heap.old }
 {
     if !is_object_below(world, heap, at, class_name(world, found.class)) {
-        return Some(false);
+        return false;
     }
     let Some(index) = place_in(world, heap, at, found) else {
-        return None;
+        let _fewer = heap.len(at);
+        return true;
     };
     let element = element_of(descriptor);
-    match put_field(heap, Some(at), true, index, element, value) {
-        Reply::Done => Some(true),
-        _ => Some(false),
-    }
+    matches!(
+        put_field(heap, Some(at), true, index, element, value),
+        Reply::Done
+    )
 }

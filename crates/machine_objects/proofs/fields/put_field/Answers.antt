@@ -18,7 +18,7 @@ use Rattle.machine_steps.specs.Runs.{IsFormed}
 use Rattle.machine_objects.specs.Fields.{Writes, written_reply}
 use Rattle.machine_objects.specs.Taking.{Takes, access_form}
 use Rattle.machine_objects.proofs.Asked.{breaks_moves}
-use Rattle.machine_objects.proofs.Back.{back_to, none_written, on_err, if_err, if_ok}
+use Rattle.machine_objects.proofs.Back.{back_to, on_err, if_err, if_ok}
 use Rattle.machine_objects.proofs.Followed.{follows_done, follows_refuses}
 use Rattle.machine_objects.proofs.FieldMoves.{put_form, put_missing, put_null, put_moves}
 use Rattle.machine_objects.proofs.fields.put_field.Goals as goal
@@ -121,8 +121,8 @@ returns-in_default-object-clause-err c =
     let takes : Takes form request vs old mid = subst (λ (v : Value). Takes form request (w.value ∷ v ∷ []) old mid) (sym c.reference_value.ensures) (c.in-Some.ensures.taken r) in
     if_err c.fail.result (λ same. same ∙ back_to form request vs old mid c.restore-in_default-object.new.state takes c.restore-in_default-object.ensures) c.fail.ensures.err
 
-pub returns-in-Some-true-clause-moves : goal.returns-in-Some-true-clause-moves
-returns-in-Some-true-clause-moves c =
+pub returns-then-write-clause-moves : goal.returns-then-write-clause-moves
+returns-then-write-clause-moves c =
     let k = c.args.world.now in
     let r = reference_seen c.args.field in
     let old = c.args.state.now in
@@ -135,10 +135,10 @@ returns-in-Some-true-clause-moves c =
     let takes : Takes form request vs old mid = subst (λ (v : Value). Takes form request (w.value ∷ v ∷ []) old mid) (sym c.reference_value.ensures) (c.in-Some.ensures.taken r) in
     let found = c.in-Some-instance_field.found in
     put_moves k old mid c.go_on_next.new.state r kind c.kind_in.ensures w.object w.value vs takes c.write.new.heap c.go_on_next.result Done found.class.0 found.position c.in-Some-object.at c.in-Some-instance_field.ensures.found c.in-Some-object.is c.write.ensures.names
-    (subst (λ (b : Bool). Writes k mid.heap c.write.new.heap found.class.0 found.position r.member.descriptor c.in-Some-object.at w.value (written_reply b)) c.in-Some-true.field-0-test c.in-Some-true.ensures.written) (follows_done k (record mid { heap = c.write.new.heap }) c.go_on_next.new.state c.go_on_next.result vs c.go_on_next.ensures.moves)
+    (subst (λ (b : Bool). Writes k mid.heap c.write.new.heap found.class.0 found.position r.member.descriptor c.in-Some-object.at w.value (written_reply b)) c.if-write.true c.write.ensures.written) (follows_done k (record mid { heap = c.write.new.heap }) c.go_on_next.new.state c.go_on_next.result vs c.go_on_next.ensures.moves)
 
-pub returns-in-Some-false-clause-moves : goal.returns-in-Some-false-clause-moves
-returns-in-Some-false-clause-moves c =
+pub returns-else-write-clause-moves : goal.returns-else-write-clause-moves
+returns-else-write-clause-moves c =
     let k = c.args.world.now in
     let r = reference_seen c.args.field in
     let old = c.args.state.now in
@@ -152,33 +152,4 @@ returns-in-Some-false-clause-moves c =
     let after : MachineState = record mid { heap = c.write.new.heap } in
     let found = c.in-Some-instance_field.found in
     put_moves k old mid after r kind c.kind_in.ensures w.object w.value vs takes c.write.new.heap (Ended Broken) Refuses found.class.0 found.position c.in-Some-object.at c.in-Some-instance_field.ensures.found c.in-Some-object.is c.write.ensures.names
-    (subst (λ (b : Bool). Writes k mid.heap c.write.new.heap found.class.0 found.position r.member.descriptor c.in-Some-object.at w.value (written_reply b)) c.in-Some-false.field-0-test c.in-Some-false.ensures.written) (follows_refuses k after after vs)
-
-pub returns-in-None-clause-formed : goal.returns-in-None-clause-formed
-returns-in-None-clause-formed c =
-    let k = c.args.world.now in
-    let r = reference_seen c.args.field in
-    let old = c.args.state.now in
-    let mid = c.take_written.new.state in
-    let kind = c.kind_in.result in
-    let w = c.in-Some.written in
-    let form = access_form Access.PutField r kind in
-    let request = λ (n : Naming). PutField r (reference n w.object) (held n w.value) in
-    let vs = w.value ∷ c.reference_value.result ∷ [] in
-    let takes : Takes form request vs old mid = subst (λ (v : Value). Takes form request (w.value ∷ v ∷ []) old mid) (sym c.reference_value.ensures) (c.in-Some.ensures.taken r) in
-    let after : MachineState = record mid { heap = c.write.new.heap } in
-    subst (λ (s : MachineState). IsFormed k s) (sym (none_written form request vs old mid c.write.new.heap c.restore-in-None.new.state takes (c.in-None.ensures.none refl) c.restore-in-None.ensures)) c.requires.formed
-
-pub returns-in-None-clause-err : goal.returns-in-None-clause-err
-returns-in-None-clause-err c =
-    let k = c.args.world.now in
-    let r = reference_seen c.args.field in
-    let old = c.args.state.now in
-    let mid = c.take_written.new.state in
-    let kind = c.kind_in.result in
-    let w = c.in-Some.written in
-    let form = access_form Access.PutField r kind in
-    let request = λ (n : Naming). PutField r (reference n w.object) (held n w.value) in
-    let vs = w.value ∷ c.reference_value.result ∷ [] in
-    let takes : Takes form request vs old mid = subst (λ (v : Value). Takes form request (w.value ∷ v ∷ []) old mid) (sym c.reference_value.ensures) (c.in-Some.ensures.taken r) in
-    none_written form request vs old mid c.write.new.heap c.restore-in-None.new.state takes (c.in-None.ensures.none refl) c.restore-in-None.ensures
+    (subst (λ (b : Bool). Writes k mid.heap c.write.new.heap found.class.0 found.position r.member.descriptor c.in-Some-object.at w.value (written_reply b)) c.if-write.false c.write.ensures.written) (follows_refuses k after after vs)

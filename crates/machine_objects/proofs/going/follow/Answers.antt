@@ -9,21 +9,15 @@ use Rattle.machine_objects.proofs.Followed.{follows_gives, follows_done, follows
 use Rattle.machine_requests.specs.declared.reply.Reply.{Reply}
 use Rattle.machine_objects.proofs.going.follow.Goals as goal
 
-pub returns-then-can_give-clause-moves : goal.returns-then-can_give-clause-moves
-returns-then-can_give-clause-moves c =
-    subst (λ (r : Reply). Follows c.args.world.now c.args.state.now c.give_next.new.state c.give_next.result r (reverse c.args.taken.now)) (sym c.in-Gives.is) (
-    follows_gives c.args.world.now c.args.state.now c.give_next.new.state c.give_next.result (reverse c.args.taken.now) c.in-Gives.value c.if-can_give.ensures c.give_next.ensures.moves
-    )
-
-pub returns-else-can_give-clause-formed : goal.returns-else-can_give-clause-formed
-returns-else-can_give-clause-formed c =
-    let lacking = c.requires.lacking in
-    subst (λ (s : MachineState). IsFormed c.args.world.now s) (sym (c.restore.ensures lacking.before lacking.from)) (still_formed c.args.world.now (reverse c.args.taken.now) lacking.before c.args.state.now lacking.from c.requires.formed)
+pub returns-in-Gives-clause-moves : goal.returns-in-Gives-clause-moves
+returns-in-Gives-clause-moves c =
+    subst (λ (r : Reply). Follows c.args.world.now c.args.state.now c.give_next.new.state c.give_next.result r (reverse c.args.taken.now)) (sym c.in-Gives.is)
+    (follows_gives c.args.world.now c.args.state.now c.give_next.new.state c.give_next.result (reverse c.args.taken.now) c.in-Gives.value c.give_next.ensures.moves)
 
 pub fail-requires-clause-formed : goal.fail-requires-clause-formed
 fail-requires-clause-formed c =
     let lacking = c.requires.lacking in
-    subst (λ (s : MachineState). IsFormed c.args.world.now s) (sym (c.restore-in-Faults.ensures lacking.before lacking.from)) (still_formed c.args.world.now (reverse c.args.taken.now) lacking.before c.args.state.now lacking.from c.requires.formed)
+    subst (λ (s : MachineState). IsFormed c.args.world.now s) (sym (c.restore.ensures lacking.before lacking.from)) (still_formed c.args.world.now (reverse c.args.taken.now) lacking.before c.args.state.now lacking.from c.requires.formed)
 
 pub returns-in-Done-clause-moves : goal.returns-in-Done-clause-moves
 returns-in-Done-clause-moves c =
@@ -34,7 +28,7 @@ pub returns-in-Faults-clause-moves : goal.returns-in-Faults-clause-moves
 returns-in-Faults-clause-moves c =
     if_ok c.fail.result _ (λ step. Follows c.args.world.now c.args.state.now c.fail.new.state step c.args.reply (reverse c.args.taken.now))
     (λ step moves. subst (λ (r : Reply). Follows c.args.world.now c.args.state.now c.fail.new.state step r (reverse c.args.taken.now)) (sym c.in-Faults.is)
-    (follows_faults c.args.world.now c.args.state.now c.fail.new.state step (reverse c.args.taken.now) c.restore-in-Faults.new.state c.in-Faults.fault c.restore-in-Faults.ensures moves)) c.fail.ensures.moves
+    (follows_faults c.args.world.now c.args.state.now c.fail.new.state step (reverse c.args.taken.now) c.restore.new.state c.in-Faults.fault c.restore.ensures moves)) c.fail.ensures.moves
 
 pub returns-in-Faults-clause-err : goal.returns-in-Faults-clause-err
-returns-in-Faults-clause-err c = if_err c.fail.result (λ same before from. same ∙ c.restore-in-Faults.ensures before from) c.fail.ensures.err
+returns-in-Faults-clause-err c = if_err c.fail.result (λ same before from. same ∙ c.restore.ensures before from) c.fail.ensures.err
