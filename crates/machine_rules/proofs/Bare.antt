@@ -30,7 +30,7 @@ use Rattle.machine_rules.specs.Library.{HasLibrary}
 use Rattle.machine_rules.specs.Works.{IsSettingOf}
 use Rattle.machine_rules.proofs.Declared.{class_behind}
 use Rattle.machine_rules.proofs.Library.{library_knows}
-use Rattle.machine_rules.proofs.LibraryFields.{known_place, three_more, many_heads, extends}
+use Rattle.machine_rules.proofs.LibraryClasses.{known_place, three_more, many_heads, extends}
 
 -- a class without fields, and above it one without fields that extends none
 two_bare : (heads : List ClassHead) (most place up : ℕ) → in_place heads place ≡ [] → superclass_at heads place ≡ up ∷ [] → in_place heads up ≡ [] → superclass_at heads up ≡ []

@@ -34,7 +34,7 @@ use Rattle.machine_requests.specs.TellingLaws.{named_at, fit_at, array_is_array}
 use Rattle.std.proofs.lemmas.Bool.{and_parts, lt-ltb}
 use Rattle.machine_rules.specs.declared.work.Work.TheVariants.{Results}
 use Rattle.machine_rules.specs.Boxes.{is_box_name, hash_value, same_values, TellsSameBox}
-use Rattle.machine_rules.specs.Fields.{HasPlace, AreWhole, Reads, Writes}
+use Rattle.machine_rules.specs.Fields.{AreWhole, Reads, Writes}
 use Rattle.machine_rules.specs.Texts.{truth_value}
 use Rattle.machine_rules.specs.Works.{setting_of, Holds, Does}
 use Rattle.machine_rules.proofs.Giving.{truth_same, truth_settled}
@@ -200,16 +200,16 @@ field_element boxed.Long = refl
 field_element boxed.Float = refl
 field_element boxed.Double = refl
 
-pub box_set : (k : Known) (things after : Things) (type : Primitive) (at : Ref) (v : Value) → Writes k things at (value_field type) v after → AreWhole k things → HasPlace k things at (value_field type)
+pub box_set : (k : Known) (things after : Things) (type : Primitive) (at : Ref) (v : Value) → (AreWhole k things → Writes k things at (value_field type) v after) → AreWhole k things
     → Does k things (λ s ns w. calls.with_argument s.classes w (rule.SetBox type) (name_of s.heads ns at) (held s.heads ns v)) after (Results None None)
-box_set k things after type at v writes whole has names others w distinct holds =
+box_set k things after type at v writes whole names others w distinct holds =
     let a = name_of k.heads things.names at in
     let h = held k.heads things.names v in
     record {
       world = write_field w a (value_field type) (narrowed (element type) h);
       same = refl;
       settled = tt;
-      holds = subst (λ (e : Element). Holds (setting_of k names) after others (write_field w a (value_field type) (narrowed e h))) (field_element type) (writes names others w distinct whole has holds);
+      holds = subst (λ (e : Element). Holds (setting_of k names) after others (write_field w a (value_field type) (narrowed e h))) (field_element type) (writes whole names others w distinct holds);
     }
 
 pub box_text : (type : Primitive) → is_text_class (box_class type) ≡ false

@@ -1,5 +1,5 @@
 -- Buffers that get other units.
-use Rattle.std.specs.Prelude.{◌≡◌, ℕ, ◌<◌, Bool, true, false, if◌then◌else◌, List, [], ◌∷◌, ◌++◌, reverse, length, slice_get, is_some, Option, Some, None, refl}
+use Rattle.std.specs.Prelude.{◌≡◌, ℕ, ◌<◌, Bool, true, false, if◌then◌else◌, List, [], ◌∷◌, ◌++◌, reverse, length, slice_get, Option, Some, None, refl}
 use Rattle.std.specs.List.{AllByRecursion}
 use Rattle.std.specs.Option.{unwrap_or}
 use Rattle.std.proofs.Common.{sym, ◌∙◌, ap, subst}
@@ -74,7 +74,8 @@ module _ (heads : List ClassHead) (fields : List ℕ → List Reference) (names 
   lacks_all (n ∷ ns) [] = tt
   lacks_all (n ∷ ns) (c ∷ cs) = lacks_both a (listed_one heads fields names n c) (listed heads fields names ns cs) (lacks_one n c) (lacks_all ns cs)
 
-kept : (s : Setting) (things : Things) (others : Others) (w : World) (a : machine.Name) (object : worlds.Object) → ((maker : Maker) (k : ℕ) → same_name (machine_name s.heads (Made maker k)) a ≡ false) → Shares s things others w
+-- so nothing changes
+pub kept : (s : Setting) (things : Things) (others : Others) (w : World) (a : machine.Name) (object : worlds.Object) → ((maker : Maker) (k : ℕ) → same_name (machine_name s.heads (Made maker k)) a ≡ false) → Shares s things others w
     → Shares s things others (set_object w a object)
 kept s things others w a object apart shares =
     subst (λ (heap : Listing). Shares s things others (record w { heap = heap }))
@@ -111,13 +112,3 @@ pub append_made : (things : Things) (at : Ref) (units : List ℕ) → at.0 < len
 append_made things at units known made =
     subst (λ (l : List ℕ). Sets things at (units_at things at.0 ++ units) (changed things at.0 (Text (l ++ units)))) (ap (λ o. unwrap_or o []) (made_text things at.0 known made))
     (set_made things at (units_at things at.0 ++ units) known made)
-
-none_there : (o : Option (List ℕ)) → is_some o ≡ false → unwrap_or o [] ≡ []
-none_there None h = refl
-none_there (Some units) h = absurd (false≢true (sym h))
-
-pub append_first : (things : Things) (at : Ref) (units : List ℕ) → at.0 < length things.names → is_made_at things at.0 ≡ true → is_some (things_of.text_at things at.0) ≡ false
-    → Sets things at (units_at things at.0 ++ units) (changed things at.0 (Text units))
-append_first things at units known made none =
-    subst (λ (l : List ℕ). Sets things at (l ++ units) (changed things at.0 (Text units))) (sym (ap (λ o. unwrap_or o []) (made_text things at.0 known made) ∙ none_there (things_of.text_at things at.0) none))
-    (set_made things at units known made)

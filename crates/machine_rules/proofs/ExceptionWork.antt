@@ -1,7 +1,9 @@
 -- What exceptions do.
-use Rattle.std.specs.Prelude.{◌≡◌, ℕ, Bool, true, false, if◌then◌else◌, List, codes, length, Option, Some, None, is_some, refl}
-use Rattle.std.proofs.Common.{sym, ◌∙◌, ap, subst}
+use Rattle.std.specs.Prelude.{◌≡◌, ℕ, ◌≤◌, Bool, true, false, if◌then◌else◌, List, [], ◌∷◌, ◌++◌, codes, take, length, Option, Some, None, is_some, refl}
+use Rattle.std.proofs.Common.{sym, ◌∙◌, ap, subst, arith}
+use Rattle.std.proofs.Math.Seq.{take-append_seam}
 use Rattle.std.proofs.lemmas.Bool.{false≢true}
+use Rattle.aj_names.specs.declared.ids.ClassId.{ClassId}
 use Rattle.class_file.specs.Pool.{Reference}
 use Rattle.boot_library.specs.declared.rule.LibraryRule.TheVariants as rule
 use Rattle.class_world.specs.Tables.{Known}
@@ -15,16 +17,18 @@ use Rattle.class_machine.specs.World.{World, write_field, make, message_field, c
 use Rattle.machine_values.specs.declared.values.Ref.{Ref}
 use Rattle.machine_values.specs.declared.values.Value.{Value}
 use Rattle.machine_values.specs.Standing.{name_of, held, Settled}
-use Rattle.machine_values.specs.Things.{Things}
-use Rattle.machine_requests.specs.Objects.{AreFilled, field_place}
+use Rattle.machine_values.specs.StandingLaws.{length-push}
+use Rattle.machine_values.specs.Things.{Things, next_name, with_made}
+use Rattle.machine_values.specs.declared.content.Content.{Content}
+use Rattle.machine_values.specs.declared.names.Maker.TheVariants.{Class}
+use Rattle.machine_requests.specs.Replies.{IsLonger}
 use Rattle.machine_requests.specs.Shares.{Setting, Others}
 use Rattle.machine_requests.specs.Telling.{AreDistinct}
-use Rattle.machine_fields.specs.Settings.{world_setting}
 use Rattle.machine_rules.specs.declared.work.Work.TheVariants.{Results, Throws, Misuses}
-use Rattle.machine_rules.specs.Exceptions.{is_cause, TellsCause}
-use Rattle.machine_rules.specs.Fields.{HasPlace, AreWhole, Writes}
+use Rattle.machine_rules.specs.Exceptions.{is_cause, TellsCause, IsLast}
+use Rattle.machine_rules.specs.Fields.{AreWhole, Writes}
 use Rattle.machine_rules.specs.Texts.{argument_at}
-use Rattle.machine_rules.specs.Works.{setting_of, Holds, Does}
+use Rattle.machine_rules.specs.Works.{setting_of, Holds, Does, Grows}
 use Rattle.machine_rules.proofs.Giving.{argued, argument_same, done_same, misuse_done}
 use Rattle.machine_rules.proofs.NewWork.{IsWritten}
 
@@ -69,16 +73,16 @@ module _ (k : Known) (things : Things) (at : Ref) (text : Value) (settled : Sett
   message_misused is names others w distinct holds =
       text_misused (λ s v units. calls.does (write_field v (name_of k.heads things.names at) message_field (held k.heads things.names text))) is names others w distinct holds
 
-  pub message_set : (after : Things) → is_some (argument_at k.heads things text) ≡ true → Writes k things at message_field text after → AreWhole k things → HasPlace k things at message_field
+  pub message_set : (after : Things) → is_some (argument_at k.heads things text) ≡ true → Writes k things at message_field text after
       → Does k things (λ s ns w. calls.with_argument s.classes w rule.SetMessage (name_of s.heads ns at) (held s.heads ns text)) after (Results None None)
-  message_set after is writes whole has names others w distinct holds =
+  message_set after is writes names others w distinct holds =
       let a = name_of k.heads things.names at in
       let h = held k.heads things.names text in
       record {
         world = write_field w a message_field h;
         same = text_taken names others w (calls.does (write_field w a message_field h)) distinct holds is;
         settled = tt;
-        holds = subst (λ (x : Held). Holds (setting_of k names) after others (write_field w a message_field x)) (unnarrowed h) (writes names others w distinct whole has holds);
+        holds = subst (λ (x : Held). Holds (setting_of k names) after others (write_field w a message_field x)) (unnarrowed h) (writes names others w distinct holds);
       }
 
   -- ---- with a cause
@@ -113,19 +117,17 @@ module _ (k : Known) (things : Things) (at : Ref) (text : Value) (settled : Sett
         }
 
     pub both_set : (mid after : Things) → is_some (argument_at k.heads things text) ≡ true → TellsCause k things cause true → Writes k things at message_field text mid → mid.names ≡ things.names
-        → ((s : Setting) → AreFilled things s → AreFilled mid s) → Writes k mid at cause_field cause after
-        → AreWhole k things → HasPlace k things at message_field → HasPlace k things at cause_field
+        → Writes k mid at cause_field cause after
         → Does k things (λ s ns w. calls.with_arguments s.classes w rule.SetMessageAndCause (name_of s.heads ns at) (held s.heads ns text) (held s.heads ns cause)) after (Results None None)
-    both_set mid after is tells first same filled second whole has has_cause names others w distinct holds =
+    both_set mid after is tells first same second names others w distinct holds =
         let s = setting_of k names in
         let a = name_of k.heads things.names at in
         let h = held k.heads things.names text in
         let c = held k.heads things.names cause in
         let v = write_field w a message_field h in
-        let one : Holds s mid others v = subst (λ (x : Held). Holds s mid others (write_field w a message_field x)) (unnarrowed h) (first names others w distinct whole has holds) in
-        let there : HasPlace k mid at cause_field = subst (λ ns. is_some (field_place ((world_setting k).classes.fields (machine.class_of (name_of k.heads ns at))) cause_field) ≡ true) (sym same) has_cause in
+        let one : Holds s mid others v = subst (λ (x : Held). Holds s mid others (write_field w a message_field x)) (unnarrowed h) (first names others w distinct holds) in
         let two : Holds s after others (write_field v a cause_field (narrowed Element.Reference c)) =
-        subst (λ ns. Holds s after others (write_field v (name_of k.heads ns at) cause_field (narrowed Element.Reference (held k.heads ns cause)))) same (second names others v distinct (filled (world_setting k) whole) there one) in
+        subst (λ ns. Holds s after others (write_field v (name_of k.heads ns at) cause_field (narrowed Element.Reference (held k.heads ns cause)))) same (second names others v distinct one) in
         record {
           world = write_field v a cause_field c;
           same = text_taken names others w (calls.set_cause s.classes w a h c) distinct holds is
@@ -152,3 +154,24 @@ missing_thrown k things after at name written whole names others w distinct hold
       within = one.within;
       holds = subst (λ (x : Held). Holds s after others (write_field made.1 made.0 message_field x)) (unnarrowed h) one.holds;
     }
+
+-- ---- the last object
+
+pub last_one : (before after : Things) (class : ClassId) (content : Content) (at : Ref) (count : ℕ) → count ≡ length before.names → count ≡ length before.contents → (at.0, after) ≡ with_made before (Class class) content → IsLast before after at
+last_one before after class content at count names contents added =
+    let n = next_name before.names (Class class) in
+    let place : at.0 ≡ length before.names = ap (λ (p : ℕ × Things). p.0) added in
+    let longer = length-push before.names n in
+    let all : length after.names ≡ length (before.names ++ n ∷ []) = ap (λ (p : ℕ × Things). length p.1.names) added in
+    record {
+      known = omega arith;
+      behind = omega arith;
+      contents = ap (λ (p : ℕ × Things). take (length before.contents) p.1.contents) added ∙ take-append_seam before.contents (content ∷ []);
+    }
+
+-- it gets its message
+pub last_grows : (before mid after : Things) (at : Ref) → IsLast before mid at → IsLonger before mid → after.names ≡ mid.names → ((count : ℕ) → count ≤ at.0 → take count after.contents ≡ take count mid.contents) → Grows before after
+last_grows before mid after at last longer same stay = record {
+  names = ap (take (length before.names)) (same ∙ longer.1) ∙ take-append_seam before.names longer.0;
+  contents = stay (length before.contents) last.behind ∙ last.contents;
+}

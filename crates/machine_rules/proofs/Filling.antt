@@ -1,7 +1,7 @@
 -- Objects keep a value for each field of their class where texts are made and appended.
-use Rattle.std.specs.Prelude.{◌≡◌, ℕ, zero, suc, ◌<◌, ◌==◌, true, List, [], ◌∷◌, length, slice_get, slice_set, Option, Some, None, refl}
+use Rattle.std.specs.Prelude.{◌≡◌, ℕ, zero, suc, ◌<◌, ◌==◌, true, is_some, List, [], ◌∷◌, length, slice_get, slice_set, Option, Some, None, refl}
 use Rattle.std.proofs.Common.{sym, ◌∙◌, ap, subst, inl, inr, eq-eqb}
-use Rattle.std.proofs.lemmas.Bool.{cases_Bool, lt-ltb, eqb-true, false≢true}
+use Rattle.std.proofs.lemmas.Bool.{cases_Bool, eqb-true, false≢true}
 use Rattle.aj_names.specs.declared.ids.ClassId.{ClassId}
 use Rattle.class_file.specs.Pool.{Reference}
 use Rattle.class_heads.specs.declared.types.ClassHead.{ClassHead}
@@ -10,20 +10,18 @@ use Rattle.class_world.specs.Tables.{Known}
 use Rattle.class_machine.specs.Values.{class_of, string_class}
 use Rattle.class_machine.specs.World.{is_text_class}
 use Rattle.machine_values.specs.declared.content.Content.{Content}
-use Rattle.machine_values.specs.declared.content.Content.TheVariants.{Text}
-use Rattle.machine_values.specs.declared.frames.Destination.{Destination}
-use Rattle.machine_values.specs.declared.frames.Destination.TheVariants.{Appends}
+use Rattle.machine_values.specs.declared.content.Content.TheVariants.{Values, Text, Fixed}
 use Rattle.machine_values.specs.declared.names.Maker.TheVariants.{Class, Array}
 use Rattle.machine_values.specs.declared.names.Name.{Name}
 use Rattle.machine_values.specs.declared.names.Name.TheVariants.{Made, Literal, ClassObject}
 use Rattle.machine_values.specs.declared.values.Ref.{Ref}
-use Rattle.machine_values.specs.Standing.{name_in, name_of}
+use Rattle.machine_values.specs.Standing.{name_in}
 use Rattle.machine_values.specs.Things.{Things, changed, next_name, with_made}
 use Rattle.machine_requests.proofs.Fills.{grown_filled}
-use Rattle.machine_requests.specs.Growth.{name_stays}
-use Rattle.machine_requests.specs.Objects.{fields_in}
-use Rattle.machine_requests.specs.Replies.{IsLonger}
-use Rattle.machine_rules.specs.Filling.{FillsAt, FillsStill, FillsTo}
+use Rattle.machine_requests.specs.Objects.{fields_in, AreFilled}
+use Rattle.machine_requests.specs.Shares.{Setting}
+use Rattle.machine_rules.specs.Filling.{FillsStill}
+use Rattle.machine_rules.specs.Texts.{text_in, text_at}
 
 -- ---- a new String
 
@@ -60,39 +58,39 @@ same_elsewhere (x ∷ cs) zero (suc i) c h = refl
 same_elsewhere (x ∷ cs) (suc at) zero c h = refl
 same_elsewhere (x ∷ cs) (suc at) (suc i) c h = same_elsewhere cs at i c (λ e. h (ap suc e))
 
-pub text_changed : (things : Things) (at : Ref) (units : List ℕ) → FillsAt at things (changed things at.0 (Text units))
-text_changed things at units s bare filled = record {
+text_empty : (o : Option Name) (c : Option Content) → is_some (text_in o c) ≡ true → length (fields_in o c) ≡ 0
+text_empty None c is = refl
+text_empty (Some (Made (Class class) k)) None is = refl
+text_empty (Some (Made (Class class) k)) (Some (Values vs)) is = absurd (false≢true is)
+text_empty (Some (Made (Class class) k)) (Some (Text units)) is = refl
+text_empty (Some (Made (Class class) k)) (Some Fixed) is = refl
+text_empty (Some (Made (Array type) k)) c is = refl
+text_empty (Some (Literal text)) c is = refl
+text_empty (Some (ClassObject type)) c is = refl
+
+-- what has a text has no fields
+pub text_changed : (things : Things) (at : Ref) (units : List ℕ) → is_some (text_at things at.0) ≡ true → (s : Setting) → AreFilled things s → AreFilled (changed things at.0 (Text units)) s
+text_changed things at units text s filled = record {
   each = λ i below. elim (cases_Bool (i == at.0)) [
     | inl same ↦
         let e : i ≡ at.0 = eqb-true i at.0 same in
         subst (λ (j : ℕ). length (fields_in (slice_get things.names j) (slice_get (slice_set things.contents at.0 (Text units)) j)) ≡ length (s.classes.fields (class_of (name_in s.heads (slice_get things.names j))))) (sym e)
-        (bare_there (slice_get things.names at.0) things.contents at.0 units ∙ sym (ap (length {A = Reference}) bare))
+        (bare_there (slice_get things.names at.0) things.contents at.0 units ∙ sym (text_empty (slice_get things.names at.0) (slice_get things.contents at.0) text)
+        ∙ filled.each at.0 (subst (λ (j : ℕ). j < length things.names) e below))
     | inr differ ↦
         ap (λ (o : Option Content). length (fields_in (slice_get things.names i) o)) (same_elsewhere things.contents at.0 i (Text units) (λ e. false≢true (sym differ ∙ eq-eqb i at.0 e)))
         ∙ filled.each i below
   ];
 }
 
-pub kept_at : (things : Things) (at : Ref) → FillsAt at things things
-kept_at things at s bare filled = filled
-
 -- ---- texts that go on
 
 pub kept_still : (k : Known) (things : Things) → FillsStill k things things
 kept_still k things s is bares whole filled = filled
 
-pub still_to : (k : Known) (to : Destination) (before after : Things) → FillsStill k before after → FillsTo k to before after
-still_to k to before after still s is bare = still s is
-
-pub kept_to : (k : Known) (to : Destination) (things : Things) → FillsTo k to things things
-kept_to k to things s is bare bares whole filled = filled
-
-pub set_to : (k : Known) (buffer : Ref) (before after : Things) → FillsAt buffer before after → FillsTo k (Appends buffer) before after
-set_to k buffer before after sets s is bare bares whole filled = sets s bare filled
+pub plain_still : (k : Known) (before after : Things) → ((s : Setting) → AreFilled before s → AreFilled after s) → FillsStill k before after
+plain_still k before after plain s is bares whole filled = plain s filled
 
 -- a text is made, and then appended
-pub made_and_set : (k : Known) (buffer : Ref) (before mid after : Things) → FillsStill k before mid → IsLonger before mid → FillsAt buffer mid after → buffer.0 < length before.names → FillsTo k (Appends buffer) before after
-made_and_set k buffer before mid after made longer sets known s is bare bares whole filled =
-    let same : name_of s.heads mid.names buffer ≡ name_of s.heads before.names buffer =
-    ap (λ (ns : List Name). name_of s.heads ns buffer) longer.1 ∙ name_stays s.heads before.names longer.0 buffer (lt-ltb buffer.0 (length before.names) known) in
-    sets s (ap (λ a. s.classes.fields (class_of a)) same ∙ bare) (made s is bares whole filled)
+pub made_and_set : (k : Known) (before mid after : Things) → FillsStill k before mid → ((s : Setting) → AreFilled mid s → AreFilled after s) → FillsStill k before after
+made_and_set k before mid after made plain s is bares whole filled = plain s (made s is bares whole filled)

@@ -1,20 +1,25 @@
 -- Fields that the library keeps of its own: what the machine reads and writes.
-use Rattle.std.specs.Prelude.{◌≡◌, ℕ, ◌<◌, ◌≤◌, ◌^◌, Bool, true, false, if◌then◌else◌, nat_lt, List, length, slice_get, Option, Some, None, is_some, refl}
-use Rattle.std.specs.Option.{unwrap_or}
+use Rattle.std.specs.Prelude.{◌≡◌, ℕ, zero, suc, ◌<◌, ◌≤◌, ◌^◌, Bool, true, false, if◌then◌else◌, nat_lt, List, [], ◌∷◌, map, take, length, slice_get, slice_set, Option, Some, None, refl}
+use Rattle.std.specs.List.{zip}
+use Rattle.std.specs.Option.{unwrap_or, option_map}
 use Rattle.std.proofs.Common.{sym, ◌∙◌, ap, subst, arith}
-use Rattle.std.proofs.lemmas.Bool.{false≢true}
+use Rattle.std.proofs.lemmas.List.{length-map}
 use Rattle.std.proofs.lemmas.Option.{none-some, same_Some, slice_get_past}
+use Rattle.aj_names.specs.declared.ids.ClassId.{ClassId}
 use Rattle.class_file.specs.Pool.{Reference}
 use Rattle.class_heads.specs.Hierarchy.{name_at}
 use Rattle.class_world.specs.Tables.{Known}
 use Rattle.class_machine.specs.declared.kinds.Element.{Element}
 use Rattle.class_machine.specs.Values as machine
-use Rattle.class_machine.specs.Values.{class_of, Held}
+use Rattle.class_machine.specs.Values.{class_of, same_name, Held}
+use Rattle.class_machine.specs.Classes.{same_member}
 use Rattle.class_machine.specs.Descriptors.{element_of, narrowed}
 use Rattle.class_machine.specs.Effect.{GetField, PutField}
 use Rattle.class_machine.specs.Answers as answers
 use Rattle.class_machine.specs.LibraryCalls as calls
-use Rattle.class_machine.specs.World.{World, read_field, write_field, field_of}
+use Rattle.class_machine.specs.World as worlds
+use Rattle.class_machine.specs.World.{World, find_made, with_changed, set_object, with_field, stored, written, read_field, write_field, field_of}
+use Rattle.machine_values.specs.declared.names.Maker.{Maker}
 use Rattle.machine_values.specs.declared.names.Maker.TheVariants.{Class, Array}
 use Rattle.machine_values.specs.declared.names.Name.{Name}
 use Rattle.machine_values.specs.declared.names.Name.TheVariants.{Made, Literal, ClassObject}
@@ -22,9 +27,10 @@ use Rattle.machine_values.specs.declared.content.Content.{Content}
 use Rattle.machine_values.specs.declared.content.Content.TheVariants.{Values, Text, Fixed}
 use Rattle.machine_values.specs.declared.values.Ref.{Ref}
 use Rattle.machine_values.specs.declared.values.Value.{Value}
+use Rattle.machine_values.specs.declared.values.Value.TheVariants as value
 use Rattle.machine_values.specs.declared.values.Value.TheVariants.{Null}
-use Rattle.machine_values.specs.Standing.{name_in, name_of, held}
-use Rattle.machine_values.specs.Things.{Things, values_of, values_at}
+use Rattle.machine_values.specs.Standing.{machine_name, name_in, name_of, held, Settled, object_of}
+use Rattle.machine_values.specs.Things.{Things, changed, values_of, values_at}
 use Rattle.machine_requests.specs.declared.reply.Reply.{Reply}
 use Rattle.machine_requests.specs.declared.reply.Reply.TheVariants.{Gives, Done, Faults, Refuses}
 use Rattle.machine_requests.specs.Objects.{fields_in, fields_at, field_place, HasField, HoldsSuch, AreFilled}
@@ -35,12 +41,14 @@ use Rattle.machine_requests.specs.TellingLaws.{named_at, fit_at}
 use Rattle.machine_requests.proofs.ArrayLaws.{content_at}
 use Rattle.machine_requests.proofs.Found.{made_found}
 use Rattle.machine_requests.proofs.Reading.{read_same, read_none}
-use Rattle.machine_requests.proofs.Writing.{place_below}
+use Rattle.machine_requests.specs.Arrays.{kept_value}
+use Rattle.machine_requests.proofs.Counts.{same_is}
+use Rattle.machine_requests.proofs.Writing.{write_shares}
 use Rattle.machine_fields.specs.Positions.{IsPlace, fields_of_class}
-use Rattle.machine_fields.specs.Settings.{world_setting}
 use Rattle.machine_rules.specs.declared.work.Work.TheVariants.{Results}
-use Rattle.machine_rules.specs.Fields.{made_class, IsRead, IsAtPlace, Reads, HasPlace, AreWhole, Writes}
+use Rattle.machine_rules.specs.Fields.{made_class, IsRead, IsAtPlace, Reads, AreWhole, Writes}
 use Rattle.machine_rules.specs.Works.{setting_of, Holds, Does}
+use Rattle.machine_rules.proofs.Buffers.{kept}
 
 -- ---- a setting in which each object is one of each class, and fields are by the names that they are asked for
 
@@ -184,47 +192,127 @@ hidden_given k things at r v reads names others w distinct holds =
     let read = reads names others w distinct holds in
     record { world = w; same = ap (λ (h : Held). calls.gives h w) (sym read.same); settled = read.settled; holds = holds }
 
+-- ---- a field that the object lacks
+
+-- a field that isn't among them
+absent_zip : (fs : List Reference) (hs : List Held) (r : Reference) (h : Held) → ((p : ℕ) → field_place fs r ≡ Some p → length hs ≤ p) → with_field (zip fs hs) r h ≡ zip fs hs
+absent_zip [] hs r h far = refl
+absent_zip (f ∷ fs) [] r h far = refl
+absent_zip (f ∷ fs) (g ∷ hs) r h far = by (same_member f r) refl (λ further. absent_zip fs hs r h further) where
+  by : (hit : Bool) → same_member f r ≡ hit → (((p : ℕ) → field_place fs r ≡ Some p → length hs ≤ p) → with_field (zip fs hs) r h ≡ zip fs hs) → (if hit then (r, h) ∷ zip fs hs else (f, g) ∷ with_field (zip fs hs) r h) ≡ (f, g) ∷ zip fs hs
+  by true is rest = let none : suc (length hs) ≤ 0 = far 0 (ap (λ (hit : Bool). if hit then Some 0 else option_map suc (field_place fs r)) is) in absurd (omega arith)
+  by false is rest =
+      ap (λ l. (f, g) ∷ l) (rest (λ p there.
+      let more : suc (length hs) ≤ suc p = far (suc p) (ap (λ (hit : Bool). if hit then Some 0 else option_map suc (field_place fs r)) is ∙ ap (option_map suc) there) in omega arith))
+
+-- the object that is there already
+with_same : (heap : List (machine.Name × worlds.Object)) (a : machine.Name) (o : worlds.Object) → find_made heap a ≡ Some o → with_changed heap a o ≡ heap
+with_same [] a o found = absurd (none-some o found)
+with_same (x ∷ heap) a o found = by (same_name x.0 a) refl found (λ later. with_same heap a o later) where
+  by : (hit : Bool) → same_name x.0 a ≡ hit → (if hit then Some x.1 else find_made heap a) ≡ Some o → (find_made heap a ≡ Some o → with_changed heap a o ≡ heap) → (if hit then (a, o) ∷ heap else x ∷ with_changed heap a o) ≡ x ∷ heap
+  by true is e rest = ap (λ (b : machine.Name). (b, o) ∷ heap) (sym (same_is x.0 a is)) ∙ ap (λ (p : worlds.Object). (x.0, p) ∷ heap) (sym (same_Some x.1 o e))
+  by false is e rest = ap (λ l. x ∷ l) (rest e)
+
+module _ (s : Setting) (things : Things) (others : Others) (w : World) (at : ℕ) (r : Reference) (h : Held) (distinct : AreDistinct s.heads) (shares : Shares s things others w) (known : at < length things.names) where
+  abbrev Unwritten : Type 0
+  Unwritten = Shares s things others (write_field w (name_in s.heads (slice_get things.names at)) r h)
+
+  unwritten_made : (maker : Maker) (k : ℕ) (c : Content) → slice_get things.names at ≡ Some (Made maker k) → slice_get things.contents at ≡ Some c
+      → stored (object_of s.heads s.classes.fields things.names maker c) r h ≡ object_of s.heads s.classes.fields things.names maker c → Unwritten
+  unwritten_made maker k c there holds same =
+      let a = machine_name s.heads (Made maker k) in
+      let o = object_of s.heads s.classes.fields things.names maker c in
+      let found = made_found s things others w at maker k c distinct shares there holds in
+      subst (λ (b : machine.Name). Shares s things others (write_field w b r h)) (sym (ap (name_in s.heads) there))
+      (subst (λ (x : Option worlds.Object). Shares s things others (written w a r h x)) (sym found)
+      (subst (λ (x : worlds.Object). Shares s things others (set_object w a x)) (sym same)
+      (subst (λ (heap : List (machine.Name × worlds.Object)). Shares s things others (record w { heap = heap })) (sym (with_same w.heap a o found)) shares)))
+
+  -- where the fields that an object of a class has values for are without it
+  pub unwritten : ((class : ClassId) (k : ℕ) (vs : List Value) → slice_get things.names at ≡ Some (Made (Class class) k) → slice_get things.contents at ≡ Some (Values vs) → (p : ℕ) → field_place (s.classes.fields (name_at s.heads class.0)) r ≡ Some p → length vs ≤ p)
+      → Unwritten
+  unwritten lacks =
+      let name = named_at things.names at known in
+      let whole = shares.heap.objects.whole in
+      let content = content_at things.contents at (omega arith) in
+      by name.0 content.0 name.1 content.1 where
+        by : (n : Name) (c : Content) → slice_get things.names at ≡ Some n → slice_get things.contents at ≡ Some c → Unwritten
+        by (Made (Class class) k) (Values vs) there holds =
+            unwritten_made (Class class) k (Values vs) there holds
+            (ap worlds.Instance (absent_zip (s.classes.fields (name_at s.heads class.0)) (map (held s.heads things.names) vs) r h (λ p place. let few = lacks class k vs there holds p place in let many = length-map vs (held s.heads things.names) in omega arith)))
+        by (Made (Class class) k) (Text units) there holds = unwritten_made (Class class) k (Text units) there holds refl
+        by (Made (Class class) k) Fixed there holds = unwritten_made (Class class) k Fixed there holds refl
+        by (Made (Array type) k) (Values vs) there holds = unwritten_made (Array type) k (Values vs) there holds refl
+        by (Made (Array type) k) (Text units) there holds = unwritten_made (Array type) k (Text units) there holds refl
+        by (Made (Array type) k) Fixed there holds = unwritten_made (Array type) k Fixed there holds refl
+        by (Literal units) c there holds =
+            subst (λ (b : machine.Name). Shares s things others (write_field w b r h)) (sym (ap (name_in s.heads) there)) (kept s things others w (machine.Literal units) (worlds.Text units) (λ maker k. refl) shares)
+        by (ClassObject type) c there holds =
+            subst (λ (b : machine.Name). Shares s things others (write_field w b r h)) (sym (ap (name_in s.heads) there)) (kept s things others w (machine_name s.heads (ClassObject type)) (worlds.Instance []) (λ maker k. refl) shares)
+
 -- ---- what is written
 
-place_known : (o : Option ℕ) → is_some o ≡ true → (p : ℕ) × (o ≡ Some p)
-place_known None is = absurd (false≢true is)
-place_known (Some p) is = (p, refl)
+abbrev world_with : Known → Things → Ref → Reference → Value → World → World
+world_with k things at r v w = write_field w (name_of k.heads things.names at) r (narrowed (element_of r.member.descriptor) (held k.heads things.names v))
 
-module _ (k : Known) (things : Things) (at : Ref) (r : Reference) (known : at.0 < length things.names) (whole : AreWhole k things) (has : HasPlace k things at r) where
-  abbrev fields : List Reference
-  fields = (world_setting k).classes.fields (class_of (name_of k.heads things.names at))
+module _ (k : Known) (things : Things) (at : Ref) (r : Reference) (v : Value) (known : at.0 < length things.names) where
+  pub written_elsewhere : made_class (length k.heads) (slice_get things.names at.0) ≡ None → Writes k things at r v things
+  written_elsewhere none names others w distinct holds =
+      let s = setting_of k names in record {
+        shares = unwritten s things others w at.0 r (narrowed (element_of r.member.descriptor) (held k.heads things.names v)) distinct holds.shares known
+            (λ class j vs there values p place. absurd (no_class s things others w at.0 class.0 j distinct holds.shares none there));
+      }
 
-  placed : (p : ℕ) × (field_place fields r ≡ Some p)
-  placed = place_known (field_place fields r) has
+  -- where the field's place isn't among those of the object's values
+  pub written_past : (class : ℕ) → made_class (length k.heads) (slice_get things.names at.0) ≡ Some class
+      → ((p : ℕ) → AreDistinct k.heads → field_place (fields_of_class k class) r ≡ Some p → length (values_at things at.0) ≤ p) → Writes k things at r v things
+  written_past class made past names others w distinct holds =
+      let s = setting_of k names in record {
+        shares = unwritten s things others w at.0 r (narrowed (element_of r.member.descriptor) (held k.heads things.names v)) distinct holds.shares known
+            (λ other j vs there values p place.
+            let same : name_at k.heads class ≡ name_at k.heads other.0 = sym (class_name k things at class made) ∙ ap (λ (o : Option Name). class_of (name_in k.heads o)) there in
+            let far = past p distinct (ap (λ (n : List ℕ). field_place ((setting_of k names).classes.fields n) r) same ∙ place) in
+            let count : length (values_at things at.0) ≡ length vs = ap (λ (o : Option Content). length (values_of o)) values in
+            omega arith);
+      }
 
-  within : placed.0 < length (fields_at things at.0)
-  within = let filled = whole.each at.0 known in let below = place_below fields r placed.0 placed.1 in omega arith
+  pub written_nowhere : (class : ℕ) → made_class (length k.heads) (slice_get things.names at.0) ≡ Some class → (AreDistinct k.heads → IsPlace (fields_of_class k class) r None) → length (values_at things at.0) < 2 ^ 32 → Writes k things at r v things
+  written_nowhere class made far few = written_past class made (λ p distinct place. let past : 2 ^ 32 ≤ p = far distinct p place in omega arith)
 
-  -- so it is of a class
-  pub of_class : (names : ℕ → Reference) (others : Others) (w : World) → AreDistinct k.heads → Holds (setting_of k names) things others w → made_class (length k.heads) (slice_get things.names at.0) ≡ None → ⊥
-  of_class names others w distinct holds none =
-      let name = named_at things.names at.0 known in
-      by name.0 name.1 where
-        by : (n : Name) → slice_get things.names at.0 ≡ Some n → ⊥
-        by (Made (Class class) j) there = no_class (setting_of k names) things others w at.0 class.0 j distinct holds.shares none there
-        by (Made (Array type) j) there = let e = ap (λ o. length (fields_in o (slice_get things.contents at.0))) there in let below = within in omega arith
-        by (Literal units) there = let e = ap (λ o. length (fields_in o (slice_get things.contents at.0))) there in let below = within in omega arith
-        by (ClassObject type) there = let e = ap (λ o. length (fields_in o (slice_get things.contents at.0))) there in let below = within in omega arith
+  pub written_short : (class index : ℕ) → made_class (length k.heads) (slice_get things.names at.0) ≡ Some class → (AreDistinct k.heads → IsPlace (fields_of_class k class) r (Some index)) → length (values_at things at.0) ≤ index → Writes k things at r v things
+  written_short class index made is short = written_past class made (λ p distinct place. let same = same_Some index p (sym (is distinct) ∙ place) in omega arith)
 
-  -- and the place is below 2^32
-  pub near : (class : ℕ) → AreDistinct k.heads → made_class (length k.heads) (slice_get things.names at.0) ≡ Some class → (AreDistinct k.heads → IsPlace (fields_of_class k class) r None) → length (values_at things at.0) < 2 ^ 32 → ⊥
-  near class distinct made far few =
-      let past : 2 ^ 32 ≤ placed.0 = far distinct placed.0 (ap (λ (n : List ℕ). field_place ((world_setting k).classes.fields n) r) (sym (class_name k things at class made)) ∙ placed.1) in
-      let most = few_fields (slice_get things.names at.0) (slice_get things.contents at.0) in
-      let below = within in
-      omega arith
+  kept_reference : (u : Value) → kept_value Element.Reference u ≡ u
+  kept_reference (value.Int n) = refl
+  kept_reference (value.Long n) = refl
+  kept_reference (value.Float bits) = refl
+  kept_reference (value.Double bits) = refl
+  kept_reference value.Null = refl
+  kept_reference (value.Reference a) = refl
+  kept_reference (value.Token c n) = refl
+  kept_reference (value.ReturnAddress p) = refl
+
+  fields_there : (o : Option Name) (c : Option Content) (class : ClassId) (j index : ℕ) → o ≡ Some (Made (Class class) j) → index < length (values_of c) → index < length (fields_in o c)
+  fields_there o None class j index there below = absurd (omega arith)
+  fields_there o (Some (Values vs)) class j index there below = subst (λ (x : Option Name). index < length (fields_in x (Some (Values vs)))) (sym there) below
+  fields_there o (Some (Text units)) class j index there below = absurd (omega arith)
+  fields_there o (Some Fixed) class j index there below = absurd (omega arith)
+
+  -- a field of references
+  pub reference_written : (class index : ℕ) → made_class (length k.heads) (slice_get things.names at.0) ≡ Some class → (AreDistinct k.heads → IsPlace (fields_of_class k class) r (Some index)) → element_of r.member.descriptor ≡ Element.Reference
+      → Settled (length things.names) v → index < length (values_at things at.0) → Writes k things at r v (changed things at.0 (Values (slice_set (values_at things at.0) index v)))
+  reference_written class index made is such settled below names others w distinct holds =
+      let s = setting_of k names in
+      let there = made_at (length k.heads) (slice_get things.names at.0) class made in
+      let here : field_place ((setting_of k names).classes.fields (class_of (name_of k.heads things.names at))) r ≡ Some index =
+      ap (λ (n : List ℕ). field_place ((setting_of k names).classes.fields n) r) (class_name k things at class made) ∙ is distinct in
+      let within = fields_there (slice_get things.names at.0) (slice_get things.contents at.0) (record { 0 = class }) there.0 index there.1 below in
+      subst (λ (u : Value). Holds s (changed things at.0 (Values (slice_set (values_at things at.0) index u))) others (world_with k things at r v w)) (kept_reference v)
+      (record { shares = write_shares s things others w distinct holds.shares at.0 index r Element.Reference v here such settled known within })
 
 abbrev Puts : Things → Things → Ref → ℕ → Element → Value → Reply → Type 0
 Puts things after at index e v reply =
     (others : Others) (r : Reference) → IsAnswerWhere (λ s. HasField things (Some at) r true index s × HoldsSuch r e s × AreFilled things s) things others (λ s names. PutField r (object s names (Some at)) (held s.heads names v)) after others reply
-
-abbrev world_with : Known → Things → Ref → Reference → Value → World → World
-world_with k things at r v w = write_field w (name_of k.heads things.names at) r (narrowed (element_of r.member.descriptor) (held k.heads things.names v))
 
 shares_done : (s : Setting) (things after : Things) (others : Others) (before w : World) (reply : Reply) → Replies s after others before reply (answers.Done w) → Shares s after others w
 shares_done s things after others before w (Gives u) got = absurd got
@@ -233,10 +321,20 @@ shares_done s things after others before w (Faults fault) got = absurd got
 shares_done s things after others before w Refuses got = absurd got
 
 pub written_there : (k : Known) (things after : Things) (at : Ref) (r : Reference) (class index : ℕ) (e : Element) (v : Value) (reply : Reply) → made_class (length k.heads) (slice_get things.names at.0) ≡ Some class
-    → (AreDistinct k.heads → IsPlace (fields_of_class k class) r (Some index)) → e ≡ element_of r.member.descriptor → Puts things after at index e v reply → Writes k things at r v after
-written_there k things after at r class index e v reply made place such puts names others w distinct whole has holds =
+    → (AreDistinct k.heads → IsPlace (fields_of_class k class) r (Some index)) → e ≡ element_of r.member.descriptor → Puts things after at index e v reply → AreWhole k things → Writes k things at r v after
+written_there k things after at r class index e v reply made place such puts whole names others w distinct holds =
     let s = setting_of k names in
     let here : field_place ((setting_of k names).classes.fields (class_of (name_of k.heads things.names at))) r ≡ Some index =
     ap (λ (n : List ℕ). field_place ((setting_of k names).classes.fields n) r) (class_name k things at class made) ∙ place distinct in
     let got = puts others r (free s) w (free_field s things at r index here, record { element = sym such }, record { each = whole.each }) distinct (free_shares s things others w holds.shares) in
     record { shares = shares_free s after others (world_with k things at r v w) (shares_done (free s) things after others w (world_with k things at r v w) reply got) }
+
+take_set : (cs : List Content) (at count : ℕ) (c : Content) → count ≤ at → take count (slice_set cs at c) ≡ take count cs
+take_set cs at zero c h = refl
+take_set [] at (suc count) c h = refl
+take_set (d ∷ cs) zero (suc count) c h = absurd (omega arith)
+take_set (d ∷ cs) (suc at) (suc count) c h = ap (λ l. d ∷ l) (take_set cs at count c (omega arith))
+
+-- the objects before it stay
+pub before_stay : (things after : Things) (at : Ref) (c : Content) → after ≡ changed things at.0 c → (count : ℕ) → count ≤ at.0 → take count after.contents ≡ take count things.contents
+before_stay things after at c same count h = ap (λ (t : Things). take count t.contents) same ∙ take_set things.contents at.0 count c h

@@ -1,8 +1,7 @@
 -- What objects tell of themselves.
-use Rattle.std.specs.Prelude.{◌≡◌, ℕ, ◌<◌, ◌++◌, ◌∷◌, Bool, true, false, List, [], length, slice_get, Option, Some, None, refl}
+use Rattle.std.specs.Prelude.{◌≡◌, ℕ, ◌<◌, ◌++◌, ◌∷◌, Bool, List, [], length, slice_get, Option, Some, None, refl}
 use Rattle.std.proofs.Common.{sym, ◌∙◌, ap, subst, append_assoc}
 use Rattle.std.proofs.lemmas.Bool.{ltb-true}
-use Rattle.std.proofs.lemmas.Option.{none-some, same_Some}
 use Rattle.class_file.specs.Pool.{Reference}
 use Rattle.boot_library.specs.declared.rule.LibraryRule.TheVariants as rule
 use Rattle.class_world.specs.Tables.{Known}
@@ -18,15 +17,14 @@ use Rattle.machine_values.specs.declared.values.Value.{Value}
 use Rattle.machine_values.specs.declared.values.Value.TheVariants.{Int, Long, Float, Double, Null, Reference as Pointer, Token, ReturnAddress}
 use Rattle.machine_values.specs.Standing.{name_in, name_of, held, Settled}
 use Rattle.machine_values.specs.Things.{Things}
-use Rattle.machine_values.specs.Types.{type_name}
-use Rattle.machine_requests.specs.Shares.{Setting, Others}
+use Rattle.machine_requests.specs.Shares.{Others}
 use Rattle.machine_requests.specs.Telling.{AreDistinct}
 use Rattle.machine_requests.specs.TellingLaws.{named_at, places_tell}
 use Rattle.machine_rules.specs.declared.work.Work.{Work}
-use Rattle.machine_rules.specs.declared.work.Work.TheVariants.{Results, Misuses}
+use Rattle.machine_rules.specs.declared.work.Work.TheVariants.{Results}
 use Rattle.machine_rules.specs.Texts.{class_object_in, class_object_text, is_same_place, truth_value}
 use Rattle.machine_rules.specs.Works.{setting_of, Holds, Does}
-use Rattle.machine_rules.proofs.Giving.{given_value, done_same, misuse_done, truth_same, truth_settled}
+use Rattle.machine_rules.proofs.Giving.{given_value, done_same, truth_same, truth_settled}
 
 same_place : (k : Known) (names : ℕ → Reference) (things : Things) (others : Others) (w : World) (at : Ref) (v : Value) → AreDistinct k.heads → Holds (setting_of k names) things others w
     → at.0 < length things.names → Settled (length things.names) v → is_same_place at v ≡ calls.same_held (name_of k.heads things.names at) (held k.heads things.names v)

@@ -14,13 +14,13 @@ mod Hashes
 mod HiddenWork
 mod IdentityWork
 mod Library
-mod LibraryFields
+mod LibraryClasses
 mod NewWork
 mod OtherRules
 mod PlainNames
 mod ReadFields
 mod Resumed
-mod RuledWork
+pub mod RuledWork
 mod Rules
 mod Selection
 mod Spelled

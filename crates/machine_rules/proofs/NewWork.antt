@@ -1,5 +1,5 @@
 -- New objects that get a value in a field that the library keeps of its own.
-use Rattle.std.specs.Prelude.{◌≡◌, ℕ, ◌<◌, ◌≤◌, true, false, List, length, is_some, refl}
+use Rattle.std.specs.Prelude.{◌≡◌, ℕ, ◌<◌, ◌≤◌, false, List, length, refl}
 use Rattle.std.proofs.Common.{sym, ◌∙◌, ap, subst, arith, length-append}
 use Rattle.std.proofs.lemmas.Bool.{ltb-true, lt-ltb}
 use Rattle.class_file.specs.Pool.{Reference}
@@ -16,14 +16,13 @@ use Rattle.machine_values.specs.declared.values.Value.TheVariants as value
 use Rattle.machine_values.specs.Standing.{name_of, held, Settled}
 use Rattle.machine_values.specs.Things.{Things}
 use Rattle.machine_requests.specs.Growth.{held_stays, settled_known}
-use Rattle.machine_requests.specs.Objects.{AreFilled, field_place}
+use Rattle.machine_requests.specs.Objects.{AreFilled}
 use Rattle.machine_requests.specs.Replies.{IsLonger}
 use Rattle.machine_requests.specs.Shares.{Setting, Others}
 use Rattle.machine_requests.specs.Telling.{AreDistinct}
 use Rattle.machine_fields.specs.NewObjects as fields
 use Rattle.machine_fields.specs.NewObjects.{MakesOf, KeepsFilled}
-use Rattle.machine_fields.specs.Settings.{world_setting}
-use Rattle.machine_rules.specs.Fields.{HasPlace, AreWhole, Writes, StaysWhole}
+use Rattle.machine_rules.specs.Fields.{AreWhole, Writes, StaysWhole}
 use Rattle.machine_rules.specs.Works.{setting_of, Holds}
 
 pub is_setting : (k : Known) (names : ℕ → Reference) → AreDistinct k.heads → fields.IsSettingOf k (setting_of k names)
@@ -55,19 +54,17 @@ pub record IsWritten (k : Known) (s : Setting) (after : Things) (others : Others
   pub holds : Holds s after others (write_field made.1 made.0 r h)
 
 pub new_written : (k : Known) (things mid after : Things) (class : ℕ) (name : List ℕ) (at : Ref) (r : Reference) (v : Value)
-    → name_at k.heads class ≡ name → is_text_class name ≡ false → MakesOf k class things mid at → KeepsFilled k class things mid → IsLonger things mid → Writes k mid at r v after → after.names ≡ mid.names → Settled (length things.names) v
-    → (AreDistinct k.heads → is_some (field_place ((world_setting k).classes.fields name) r) ≡ true)
+    → name_at k.heads class ≡ name → is_text_class name ≡ false → MakesOf k class things mid at → KeepsFilled k class things mid → IsLonger things mid → (AreWhole k mid → Writes k mid at r v after) → after.names ≡ mid.names → Settled (length things.names) v
     → (names : ℕ → Reference) (others : Others) (w : World) → AreDistinct k.heads → AreWhole k things → Holds (setting_of k names) things others w
     → IsWritten k (setting_of k names) after others at r (narrowed (element_of r.member.descriptor) (held k.heads things.names v)) (make (setting_of k names).classes w name)
-new_written k things mid after class name at r v named plain makes keeps longer writes same settled place names others w distinct whole holds =
+new_written k things mid after class name at r v named plain makes keeps longer writes same settled names others w distinct whole holds =
     let s = setting_of k names in
     let fits = is_setting k names distinct in
     let new = makes s others w fits holds.shares in
     let filled = keeps s others w fits (ap is_text_class named ∙ plain) holds.shares (record { each = whole.each }) in
     let is : name_of k.heads mid.names at ≡ (make s.classes w name).0 = new.name ∙ ap (λ (n : List ℕ). (make s.classes w n).0) named in
-    let there : HasPlace k mid at r = ap (λ (a : machine.Name). is_some (field_place ((world_setting k).classes.fields (class_of a)) r)) is ∙ place distinct in
     let mid_holds : Holds s mid others (make s.classes w name).1 = subst (λ (n : List ℕ). Holds s mid others (make s.classes w n).1) named (record { shares = new.shares }) in
-    let done = writes names others (make s.classes w name).1 distinct (record { each = filled.each }) there mid_holds in
+    let done = writes (record { each = filled.each }) names others (make s.classes w name).1 distinct mid_holds in
     record {
       name = ap (λ (ns : List Name). name_of k.heads ns at) same ∙ is;
       within = subst (λ (ns : List Name). at.0 < length ns) (sym same) (ltb-true at.0 (length mid.names) new.within);

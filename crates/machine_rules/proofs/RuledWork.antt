@@ -1,32 +1,29 @@
 -- What a rule does, by the kinds of calls.
-use Rattle.std.specs.Prelude.{◌≡◌, ℕ, ◌<◌, ◌≤◌, List, [], ◌∷◌, ◌++◌, map, length, slice_get, Option, Some, None, refl}
+use Rattle.std.specs.Prelude.{◌≡◌, ◌<◌, ◌≤◌, List, [], ◌∷◌, map, length, slice_get, None, refl}
 use Rattle.std.specs.Option.{unwrap_or}
 use Rattle.std.proofs.Common.{sym, ◌∙◌, ap, subst, arith}
-use Rattle.std.proofs.lemmas.List.{append-nil}
+use Rattle.std.proofs.lemmas.List.{append-nil, take_all}
 use Rattle.boot_library.specs.declared.rule.LibraryRule.{LibraryRule}
 use Rattle.boot_library.specs.declared.rule.LibraryRule.TheVariants as rule
-use Rattle.boot_library.specs.declared.rule.Spelling.{Spelling}
-use Rattle.class_file.specs.Pool.{Reference}
+use Rattle.class_heads.specs.declared.types.ClassHead.{ClassHead}
 use Rattle.class_world.specs.Tables.{Known}
+use Rattle.class_machine.specs.Classes.{Classes}
 use Rattle.class_machine.specs.LibraryCalls as calls
 use Rattle.class_machine.specs.World.{World}
-use Rattle.machine_values.specs.declared.frames.Destination.TheVariants.{Appends}
 use Rattle.machine_values.specs.declared.values.Ref.{Ref}
 use Rattle.machine_values.specs.declared.values.Value.{Value}
 use Rattle.machine_values.specs.declared.values.Value.TheVariants.{Int, Long, Float, Double, Null, Reference as Pointer, Token, ReturnAddress}
-use Rattle.machine_values.specs.Standing.{name_of, held, Settled}
+use Rattle.machine_values.specs.Standing.{name_of, held}
 use Rattle.machine_values.specs.Things.{Things}
 use Rattle.machine_requests.specs.Objects.{AreFilled}
 use Rattle.machine_requests.specs.Replies.{IsLonger}
-use Rattle.machine_requests.specs.Shares.{Setting, Others}
-use Rattle.machine_requests.specs.Telling.{AreDistinct}
+use Rattle.machine_requests.specs.Shares.{Setting, Shares}
 use Rattle.machine_rules.specs.declared.work.Work.{Work}
-use Rattle.machine_rules.specs.declared.work.Work.TheVariants.{Results, Exits, Misuses}
-use Rattle.machine_rules.specs.Fields.{StaysWhole}
-use Rattle.machine_rules.specs.Filling.{FillsAt, FillsStill, FillsTo}
+use Rattle.machine_rules.specs.declared.work.Work.TheVariants.{Results, Throws, Faults, Calls, Loads, Exits, Misuses}
+use Rattle.machine_rules.specs.Fields.{AreWhole, StaysWhole}
+use Rattle.machine_rules.specs.Filling.{FillsStill}
 use Rattle.machine_rules.specs.Library.{HasLibrary}
-use Rattle.machine_rules.specs.Ruling.{FillsBy}
-use Rattle.machine_rules.specs.Works.{setting_of, Holds, Asked, Does}
+use Rattle.machine_rules.specs.Works.{setting_of, IsSettingOf, Asked, Works, Does, DoesAnywhere, DoesWhole, Grows, ChangesBy}
 use Rattle.machine_rules.proofs.Bare.{bare_types}
 
 -- ---- work that does nothing
@@ -72,23 +69,43 @@ no_index k things at v none = misused k things (λ s ns w. calls.with_argument s
 pub same_longer : (before after : Things) → after.names ≡ before.names → IsLonger before after
 same_longer before after same = ([], same ∙ sym (append-nil before.names))
 
-pub fills_same : (k : Known) (r : LibraryRule) (receiver : Option Ref) (things : Things) → FillsBy k r receiver things things
-fills_same k r receiver things s others w is fits shares filled = filled
+pub whole_still : (k : Known) (before after : Things) → HasLibrary k → FillsStill k before after → StaysWhole k before after
+whole_still k before after has still s others w is shares filled = still s is (bare_types k s has is) shares.heap.objects.whole filled
 
-pub fills_still : (k : Known) (r : LibraryRule) (receiver : Option Ref) (before after : Things) → HasLibrary k → FillsStill k before after → FillsBy k r receiver before after
-fills_still k r receiver before after has still s others w is fits shares filled = still s is (bare_types k s has is) shares.heap.objects.whole filled
+-- ---- the heap is as it was
 
-pub fills_whole : (k : Known) (r : LibraryRule) (receiver : Option Ref) (before after : Things) → StaysWhole k before after → FillsBy k r receiver before after
-fills_whole k r receiver before after whole s others w is fits shares filled = whole s others w is shares filled
+pub same_grows : (things : Things) → Grows things things
+same_grows things = record { names = take_all (length things.names) things.names (omega arith); contents = take_all (length things.contents) things.contents (omega arith) }
 
-pub fills_plain : (k : Known) (r : LibraryRule) (receiver : Option Ref) (before after : Things) → ((s : Setting) → AreFilled before s → AreFilled after s) → FillsBy k r receiver before after
-fills_plain k r receiver before after plain s others w is fits shares filled = plain s filled
+pub unchanged : (things : Things) (work : Work) → ChangesBy things things work
+unchanged things (Results said v) = tt
+unchanged things (Throws x) = same_grows things
+unchanged things (Faults fault) = refl
+unchanged things (Calls method object wait) = refl
+unchanged things (Loads class) = refl
+unchanged things (Exits status) = refl
+unchanged things Misuses = refl
 
-pub fills_append : (k : Known) (how : Spelling) (at : Ref) (before after : Things) → HasLibrary k → FillsTo k (Appends at) before after → FillsBy k (rule.Append how) (Some at) before after
-fills_append k how at before after has fills s others w is fits shares filled = fills s is fits (bare_types k s has is) shares.heap.objects.whole filled
+-- ---- settings of the world
 
-pub fills_buffer : (k : Known) (at : Ref) (before after : Things) → FillsAt at before after → FillsBy k rule.FillBuffer (Some at) before after
-fills_buffer k at before after fills s others w is fits shares filled = fills s fits filled
+setting_same : (k : Known) (s : Setting) → IsSettingOf k s → setting_of k s.field_names ≡ s
+setting_same k s is =
+    let with_heads : List ClassHead → Setting = λ heads. record { heads = heads; classes = (setting_of k s.field_names).classes; field_names = s.field_names } in
+    let with_classes : Classes → Setting = λ cs. record { heads = s.heads; classes = cs; field_names = s.field_names } in
+    ap with_heads (sym is.heads) ∙ ap with_classes (sym is.classes)
+
+pub anywhere : (k : Known) (before : Things) (asked : Asked) (after : Things) (work : Work) → Does k before asked after work → DoesAnywhere k before asked after work
+anywhere k before asked after work done s others w is shares =
+    let same = setting_same k s is in
+    subst (λ (x : Setting). Works k x after others w work (asked x before.names w)) same (done s.field_names others w is.distinct (record { shares = subst (λ (x : Setting). Shares x before others w) (sym same) shares }))
+
+pub somewhere : (k : Known) (before : Things) (asked : Asked) (after : Things) (work : Work) → DoesAnywhere k before asked after work → Does k before asked after work
+somewhere k before asked after work done names others w distinct holds = done (setting_of k names) others w (record { heads = refl; classes = refl; distinct = distinct }) holds.shares
+
+pub anywhere_whole : (k : Known) (before : Things) (asked : Asked) (after : Things) (work : Work) → (AreWhole k before → Does k before asked after work) → DoesWhole k before asked after work
+anywhere_whole k before asked after work done s others w is shares filled =
+    let there = subst (AreFilled before) (sym (setting_same k s is)) filled in
+    anywhere k before asked after work (done (record { each = there.each })) s others w is shares
 
 -- ---- arguments
 

@@ -27,9 +27,8 @@ use Rattle.machine_requests.proofs.Found.{made_found}
 use Rattle.machine_requests.proofs.ArrayLaws.{content_at}
 use Rattle.machine_requests.proofs.NewArrays.{last_name, ref}
 use Rattle.std.proofs.Math.Seq.{take-append_seam}
-use Rattle.machine_rules.specs.Finishing.{Grows}
 use Rattle.machine_rules.specs.Texts.{text_in, text_at}
-use Rattle.machine_rules.specs.Works.{setting_of, IsAdded, AddsText}
+use Rattle.machine_rules.specs.Works.{setting_of, IsAdded, AddsText, Grows}
 
 -- ---- texts
 

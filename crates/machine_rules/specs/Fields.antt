@@ -1,5 +1,5 @@
 -- Fields of the library's objects that no code can name: the message and the cause of a Throwable, and what a box holds.
-use Rattle.std.specs.Prelude.{◌≡◌, ℕ, true, if◌then◌else◌, nat_lt, is_some, length, Option, Some, None}
+use Rattle.std.specs.Prelude.{◌≡◌, ℕ, if◌then◌else◌, nat_lt, length, Option, Some, None}
 use Rattle.class_file.specs.Pool.{Reference}
 use Rattle.class_world.specs.Tables.{Known}
 use Rattle.class_machine.specs.Values.{class_of}
@@ -52,18 +52,14 @@ Reads k things at r v =
 
 -- ---- what is written
 
--- objects of the object's class have the field
-abbrev pub HasPlace : Known → Things → Ref → Reference → Type 0
-HasPlace k things at r = is_some (field_place ((world_setting k).classes.fields (class_of (name_of k.heads things.names at))) r) ≡ true
-
 -- each object has a value for each field of its class
 abbrev pub AreWhole : Known → Things → Type 0
 AreWhole k things = AreFilled things (world_setting k)
 
--- the object's field holds the value then, with the bits that such a field keeps
+-- the object's field holds the value then, with the bits that such a field keeps; where the object lacks it nothing changed
 abbrev pub Writes : Known → Things → Ref → Reference → Value → Things → Type 0
 Writes k before at r v after =
-    (names : ℕ → Reference) (others : Others) (w : World) → AreDistinct k.heads → AreWhole k before → HasPlace k before at r → Holds (setting_of k names) before others w
+    (names : ℕ → Reference) (others : Others) (w : World) → AreDistinct k.heads → Holds (setting_of k names) before others w
     → Holds (setting_of k names) after others (worlds.write_field w (name_of k.heads before.names at) r (narrowed (element_of r.member.descriptor) (held k.heads before.names v)))
 
 -- where each object had a value for each field of its class, each has them still

@@ -1,5 +1,5 @@
 -- What is done with a text.
-use Rattle.std.specs.Prelude.{◌≡◌, ℕ, Bool, true, false, List, [], length, take, slice_get, Option, Some, None}
+use Rattle.std.specs.Prelude.{ℕ, Bool, true, false, List, [], slice_get, Option, Some, None}
 use Rattle.std.specs.Option.{option_and_then}
 use Rattle.class_machine.specs.Classes.{reference}
 use Rattle.class_machine.specs.LibraryCalls as calls
@@ -42,8 +42,3 @@ text_of things text = option_and_then (λ (at : Ref). text_at things at.0) text
 abbrev pub reference_to : Option Ref → Value
 reference_to None = Null
 reference_to (Some at) = Pointer at
-
--- objects were added
-pub record Grows (before after : Things) : Type 0 where
-  pub names : take (length before.names) after.names ≡ before.names
-  pub contents : take (length before.contents) after.contents ≡ before.contents

@@ -4,7 +4,6 @@ pub mod ClassObjects
 pub mod Exceptions
 pub mod Fields
 pub mod Filling
-pub mod FillingLaws
 pub mod Finishing
 pub mod Library
 pub mod Reading

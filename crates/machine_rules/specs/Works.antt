@@ -1,5 +1,5 @@
 -- What the work of a library call stands for, with what there is after it.
-use Rattle.std.specs.Prelude.{◌≡◌, ℕ, ◌<◌, true, List, length, Option, Some, None}
+use Rattle.std.specs.Prelude.{◌≡◌, ℕ, ◌<◌, true, List, take, length, Option, Some, None}
 use Rattle.std.specs.Option.{option_map}
 use Rattle.aj_names.specs.declared.types.FieldType.{FieldType}
 use Rattle.class_file.specs.Pool.{Reference}
@@ -24,6 +24,7 @@ use Rattle.machine_values.specs.Standing.{name_of, held}
 use Rattle.machine_values.specs.States.{machine_wait, is_known_object, is_known_destination, IsStaticWithin}
 use Rattle.machine_values.specs.Things.{Things}
 use Rattle.machine_values.specs.Types.{type_name}
+use Rattle.machine_requests.specs.Objects.{AreFilled}
 use Rattle.machine_requests.specs.Shares.{Setting, Others, Shares}
 use Rattle.machine_requests.specs.Telling.{AreDistinct, is_class_type}
 use Rattle.machine_rules.specs.declared.work.Work.{Work}
@@ -119,7 +120,24 @@ Does k before asked after work =
 -- the same, in any setting of the world
 abbrev pub DoesAnywhere : Known → Things → Asked → Things → Work → Type 0
 DoesAnywhere k before asked after work =
-    (s : Setting) (others : Others) (w : World) → IsSettingOf k s → Holds s before others w → Works k s after others w work (asked s before.names w)
+    (s : Setting) (others : Others) (w : World) → IsSettingOf k s → Shares s before others w → Works k s after others w work (asked s before.names w)
+
+-- where each object has a value for each field of its class
+abbrev pub DoesWhole : Known → Things → Asked → Things → Work → Type 0
+DoesWhole k before asked after work =
+    (s : Setting) (others : Others) (w : World) → IsSettingOf k s → Shares s before others w → AreFilled before s → Works k s after others w work (asked s before.names w)
+
+-- objects were added
+pub record Grows (before after : Things) : Type 0 where
+  pub names : take (length before.names) after.names ≡ before.names
+  pub contents : take (length before.contents) after.contents ≡ before.contents
+
+-- What the work made of the heap: with a result it may have changed objects, with an exception it added some, and else it
+-- left the heap as it was.
+abbrev pub ChangesBy : Things → Things → Work → Type 0
+ChangesBy before after (Results said v) = Unit {0}
+ChangesBy before after (Throws x) = Grows before after
+ChangesBy before after work = after ≡ before
 
 -- ---- new objects
 

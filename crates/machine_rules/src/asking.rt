@@ -12,11 +12,11 @@ ghost use Rattle.machine_values.specs.Standing.{name_of, held};
 ghost use Rattle.machine_values.specs.States.{is_known_destination};
 ghost use Rattle.machine_requests.specs.Replies.{IsLonger};
 ghost use Rattle.machine_rules.specs.Asking.{MakesText};
-ghost use Rattle.machine_rules.specs.Filling.{FillsTo};
+ghost use Rattle.machine_rules.specs.Filling.{FillsStill};
 ghost use Rattle.machine_rules.specs.Finishing.{destination_of};
 ghost use Rattle.machine_rules.specs.Library.{HasLibrary};
 ghost use Rattle.machine_rules.specs.Texts.{text_at};
-ghost use Rattle.machine_rules.specs.Works.{Does};
+ghost use Rattle.machine_rules.specs.Works.{Does, ChangesBy};
 
 use crate::classes::class_of;
 use crate::finishing::{finish_made, finish_text};
@@ -46,7 +46,8 @@ fn message_ruled(
     requires to { is_known_destination (length heap.old.names) to ≡ true }
     ensures work { IfOk result (λ work. (m : Method) → Does world.now heap.old (λ s names w. calls.message_by w (name_of s.heads names x) (destination_of s names to) (Some rule) m) heap.new work) }
     ensures names { IsLonger heap.old heap.new }
-    ensures filled { IfOk result (λ work. FillsTo world.now to heap.old heap.new) }
+    ensures filled { IfOk result (λ work. FillsStill world.now heap.old heap.new) }
+    ensures changes { IfOk result (λ work. ChangesBy heap.old heap.new work) }
     ensures err { OnErr result (heap.new ≡ heap.old) }
 {
     match rule {
@@ -75,7 +76,8 @@ pub(crate) fn ask_message(
     requires to { is_known_destination (length heap.old.names) to ≡ true }
     ensures work { IfOk result (λ work. Does world.now heap.old (λ s names w. calls.ask_message s.classes w (name_of s.heads names x) (destination_of s names to)) heap.new work) }
     ensures names { IsLonger heap.old heap.new }
-    ensures filled { IfOk result (λ work. FillsTo world.now to heap.old heap.new) }
+    ensures filled { IfOk result (λ work. FillsStill world.now heap.old heap.new) }
+    ensures changes { IfOk result (λ work. ChangesBy heap.old heap.new work) }
     ensures err { OnErr result (heap.new ≡ heap.old) }
 {
     let class = class_of(alloc, heap, world, x)?;
@@ -187,7 +189,8 @@ pub(crate) fn finish_ruled(
     requires to { is_known_destination (length heap.old.names) to ≡ true }
     ensures work { IfOk result (λ work. Does world.now heap.old (λ s names w. calls.finish_made (destination_of s names to) w (calls.made_text w rule (name_of s.heads names at))) heap.new work) }
     ensures names { IsLonger heap.old heap.new }
-    ensures filled { IfOk result (λ work. FillsTo world.now to heap.old heap.new) }
+    ensures filled { IfOk result (λ work. FillsStill world.now heap.old heap.new) }
+    ensures changes { IfOk result (λ work. ChangesBy heap.old heap.new work) }
     ensures err { OnErr result (heap.new ≡ heap.old) }
 {
     match made_text(alloc, heap, world, rule, at)? {
@@ -210,7 +213,8 @@ fn text_ruled(
     requires to { is_known_destination (length heap.old.names) to ≡ true }
     ensures work { IfOk result (λ work. (m : Method) → Does world.now heap.old (λ s names w. calls.text_by s.classes w (name_of s.heads names at) (destination_of s names to) (Some rule) m) heap.new work) }
     ensures names { IsLonger heap.old heap.new }
-    ensures filled { IfOk result (λ work. FillsTo world.now to heap.old heap.new) }
+    ensures filled { IfOk result (λ work. FillsStill world.now heap.old heap.new) }
+    ensures changes { IfOk result (λ work. ChangesBy heap.old heap.new work) }
     ensures err { OnErr result (heap.new ≡ heap.old) }
 {
     match rule {
@@ -233,7 +237,8 @@ pub(crate) fn ask_text(
     requires to { is_known_destination (length heap.old.names) to ≡ true }
     ensures work { IfOk result (λ work. Does world.now heap.old (λ s names w. calls.ask_text s.classes w (name_of s.heads names at) (destination_of s names to)) heap.new work) }
     ensures names { IsLonger heap.old heap.new }
-    ensures filled { IfOk result (λ work. FillsTo world.now to heap.old heap.new) }
+    ensures filled { IfOk result (λ work. FillsStill world.now heap.old heap.new) }
+    ensures changes { IfOk result (λ work. ChangesBy heap.old heap.new work) }
     ensures err { OnErr result (heap.new ≡ heap.old) }
 {
     let class = class_of(alloc, heap, world, at)?;

@@ -3,15 +3,15 @@
 ghost use Rattle.std.specs.Prelude.{◌≡◌, ◌<◌, length, slice_get, IfOk, OnErr};
 ghost use Rattle.boot_library.specs.declared.rule.LibraryRule.TheVariants as rule;
 ghost use Rattle.class_machine.specs.LibraryCalls as calls;
-ghost use Rattle.class_machine.specs.World.{box_class, value_field, make};
+ghost use Rattle.class_machine.specs.World.{box_class, make};
 ghost use Rattle.machine_values.specs.Standing.{name_of, held, Settled};
 ghost use Rattle.machine_requests.specs.Objects.{AreFilled};
 ghost use Rattle.machine_requests.specs.Replies.{IsLonger};
 ghost use Rattle.machine_requests.specs.Shares.{Setting};
 ghost use Rattle.machine_rules.specs.Boxes.{is_box_name, int_hash, hash_value, same_values, TellsSameBox};
-ghost use Rattle.machine_rules.specs.Fields.{HasPlace, AreWhole, StaysWhole};
+ghost use Rattle.machine_rules.specs.Fields.{AreWhole, StaysWhole};
 ghost use Rattle.machine_rules.specs.Library.{HasLibrary};
-ghost use Rattle.machine_rules.specs.Works.{Does};
+ghost use Rattle.machine_rules.specs.Works.{Does, ChangesBy};
 
 use crate::classes::{class_name, class_there};
 use crate::fields::{HiddenField, give_hidden, read_hidden, write_hidden};
@@ -138,9 +138,10 @@ pub(crate) fn set_box(
 ) -> Work
     requires at { at.0 < length heap.old.names }
     requires value { Settled (length heap.old.names) value }
-    ensures work { AreWhole world.now heap.old → HasPlace world.now heap.old at (value_field boxed) → Does world.now heap.old (λ s names w. calls.with_argument s.classes w (rule.SetBox boxed) (name_of s.heads names at) (held s.heads names value)) heap.new result }
+    ensures work { AreWhole world.now heap.old → Does world.now heap.old (λ s names w. calls.with_argument s.classes w (rule.SetBox boxed) (name_of s.heads names at) (held s.heads names value)) heap.new result }
     ensures names { heap.new.names ≡ heap.old.names }
     ensures filled { (s : Setting) → AreFilled heap.old s → AreFilled heap.new s }
+    ensures changes { ChangesBy heap.old heap.new result }
 {
     write_hidden(heap, world, at, HiddenField::Boxed(boxed), value);
     Work::Results(None, None)
@@ -159,6 +160,7 @@ pub(crate) fn box_of(
     ensures work { IfOk result (λ work. AreWhole world.now heap.old → Does world.now heap.old (λ s names w. calls.box_of w boxed (held s.heads names value) (make s.classes w (box_class boxed))) heap.new work) }
     ensures names { IsLonger heap.old heap.new }
     ensures filled { IfOk result (λ work. StaysWhole world.now heap.old heap.new) }
+    ensures changes { IfOk result (λ work. ChangesBy heap.old heap.new work) }
     ensures err { OnErr result (heap.new ≡ heap.old) }
 {
     let class = class_there(world, box_class(boxed));

@@ -16,7 +16,7 @@ ghost use Rattle.machine_requests.specs.Telling.{AreDistinct, AreFit, is_class_t
 ghost use Rattle.machine_rules.specs.ClassObjects.{class_named, found_by};
 ghost use Rattle.machine_rules.specs.Fields.{AreWhole, StaysWhole};
 ghost use Rattle.machine_rules.specs.Library.{HasLibrary};
-ghost use Rattle.machine_rules.specs.Works.{Does};
+ghost use Rattle.machine_rules.specs.Works.{Does, ChangesBy};
 
 use crate::arguments::{TextArgument, text_argument};
 use crate::classes::{class_name, knows};
@@ -66,6 +66,7 @@ pub(crate) fn get_class(
     ensures work { IfOk result (λ work. Does world.now heap.old (λ s names w. calls.on_object s.classes w rule.GetClass (name_of s.heads names at)) heap.new work) }
     ensures names { IsLonger heap.old heap.new }
     ensures filled { IfOk result (λ work. (s : Setting) → StaysFilled heap.old heap.new s) }
+    ensures changes { IfOk result (λ work. ChangesBy heap.old heap.new work) }
     ensures err { OnErr result (heap.new ≡ heap.old) }
 {
     let class = type_of(alloc, heap, world, at)?;
@@ -136,6 +137,7 @@ pub(crate) fn for_name(
     ensures work { IfOk result (λ work. AreWhole world.now heap.old → Does world.now heap.old (λ s names w. calls.by_static_rule s.classes w rule.ForName (held s.heads names name ∷ [])) heap.new work) }
     ensures names { IsLonger heap.old heap.new }
     ensures filled { IfOk result (λ work. StaysWhole world.now heap.old heap.new) }
+    ensures changes { IfOk result (λ work. ChangesBy heap.old heap.new work) }
     ensures err { OnErr result (heap.new ≡ heap.old) }
 {
     let found = match text_argument(heap, world, name) {

@@ -8,7 +8,7 @@ ghost use Rattle.machine_values.specs.Standing.{name_of};
 ghost use Rattle.machine_requests.specs.Replies.{IsLonger};
 ghost use Rattle.machine_rules.specs.Filling.{FillsStill};
 ghost use Rattle.machine_rules.specs.Library.{HasLibrary};
-ghost use Rattle.machine_rules.specs.Works.{Does};
+ghost use Rattle.machine_rules.specs.Works.{Does, ChangesBy};
 
 use crate::asking::{ask_message, finish_ruled};
 use crate::work::Work;
@@ -37,6 +37,7 @@ pub(crate) fn copy(
     ensures work { IfOk result (λ work. Does world.now heap.old (λ s names w. calls.on_object s.classes w rule.Copy (name_of s.heads names at)) heap.new work) }
     ensures names { IsLonger heap.old heap.new }
     ensures filled { IfOk result (λ work. FillsStill world.now heap.old heap.new) }
+    ensures changes { IfOk result (λ work. ChangesBy heap.old heap.new work) }
     ensures err { OnErr result (heap.new ≡ heap.old) }
 {
     finish_ruled(
@@ -62,6 +63,7 @@ pub(crate) fn describe_box(
     ensures work { IfOk result (λ work. Does world.now heap.old (λ s names w. calls.on_object s.classes w (rule.DescribeBox boxed) (name_of s.heads names at)) heap.new work) }
     ensures names { IsLonger heap.old heap.new }
     ensures filled { IfOk result (λ work. FillsStill world.now heap.old heap.new) }
+    ensures changes { IfOk result (λ work. ChangesBy heap.old heap.new work) }
     ensures err { OnErr result (heap.new ≡ heap.old) }
 {
     let rule = LibraryRule::DescribeBox(boxed);
@@ -80,6 +82,7 @@ pub(crate) fn describe_throwable(
     ensures work { IfOk result (λ work. Does world.now heap.old (λ s names w. calls.on_object s.classes w rule.DescribeThrowable (name_of s.heads names at)) heap.new work) }
     ensures names { IsLonger heap.old heap.new }
     ensures filled { IfOk result (λ work. FillsStill world.now heap.old heap.new) }
+    ensures changes { IfOk result (λ work. ChangesBy heap.old heap.new work) }
     ensures err { OnErr result (heap.new ≡ heap.old) }
 {
     ask_message(alloc, heap, world, at, Destination::Gives)

@@ -1,24 +1,28 @@
 //! What exceptions do (JVMS 2.16): their messages and causes.
 
-ghost use Rattle.std.specs.Prelude.{◌≡◌, ◌<◌, length, is_some, IfOk, OnErr};
+ghost use Rattle.std.specs.Prelude.{◌≡◌, ◌<◌, false, length, is_some, IfOk, OnOk, OnErr};
 ghost use Rattle.boot_library.specs.declared.rule.LibraryRule.TheVariants as rule;
+ghost use Rattle.class_heads.specs.Hierarchy.{name_at};
 ghost use Rattle.class_machine.specs.LibraryCalls as calls;
-ghost use Rattle.class_machine.specs.World.{message_field, cause_field};
+ghost use Rattle.class_machine.specs.World.{is_text_class};
 ghost use Rattle.machine_values.specs.Standing.{name_of, held, Settled};
 ghost use Rattle.machine_requests.specs.Objects.{AreFilled};
 ghost use Rattle.machine_requests.specs.Replies.{IsLonger};
 ghost use Rattle.machine_requests.specs.Shares.{Setting};
-ghost use Rattle.machine_rules.specs.Exceptions.{TellsCause};
-ghost use Rattle.machine_rules.specs.Fields.{HasPlace, AreWhole, StaysWhole};
+ghost use Rattle.machine_fields.specs.NewObjects.{KeepsFilled, MakesOf};
+ghost use Rattle.machine_rules.specs.Exceptions.{TellsCause, IsLast};
+ghost use Rattle.machine_rules.specs.Fields.{AreWhole, StaysWhole};
 ghost use Rattle.machine_rules.specs.Library.{HasLibrary};
 ghost use Rattle.machine_rules.specs.Texts.{argument_at};
-ghost use Rattle.machine_rules.specs.Works.{Does};
+ghost use Rattle.machine_rules.specs.Works.{Does, ChangesBy};
 
 use crate::classes::{class_there, is_string};
-use crate::fields::{HiddenField, give_hidden, write_hidden};
+use crate::fields::{HiddenField, give_hidden, write_reference};
 use crate::work::Work;
+use aj_names::ClassId;
 use class_world::World;
-use machine_fields::{is_object_below, make_object};
+use machine_fields::{field_types, is_object_below};
+use machine_requests::make;
 use machine_values::{Heap, Ref, Value};
 use std::alloc::{AllocError, Global};
 
@@ -66,14 +70,15 @@ fn is_cause(heap: &Heap, world: &World, value: Value) -> bool
 pub(crate) fn set_message(heap: &mut Heap, world: &World, at: Ref, text: Value) -> Work
     requires at { at.0 < length heap.old.names }
     requires text { Settled (length heap.old.names) text }
-    ensures work { AreWhole world.now heap.old → HasPlace world.now heap.old at message_field → Does world.now heap.old (λ s names w. calls.with_argument s.classes w rule.SetMessage (name_of s.heads names at) (held s.heads names text)) heap.new result }
+    ensures work { Does world.now heap.old (λ s names w. calls.with_argument s.classes w rule.SetMessage (name_of s.heads names at) (held s.heads names text)) heap.new result }
     ensures names { heap.new.names ≡ heap.old.names }
     ensures filled { (s : Setting) → AreFilled heap.old s → AreFilled heap.new s }
+    ensures changes { ChangesBy heap.old heap.new result }
 {
     if !is_text(heap, world, text) {
         return Work::Misuses;
     }
-    write_hidden(heap, world, at, HiddenField::Message, text);
+    write_reference(heap, world, at, HiddenField::Message, text);
     Work::Results(None, None)
 }
 
@@ -88,16 +93,38 @@ pub(crate) fn set_message_and_cause(
     requires at { at.0 < length heap.old.names }
     requires text { Settled (length heap.old.names) text }
     requires cause { Settled (length heap.old.names) cause }
-    ensures work { AreWhole world.now heap.old → HasPlace world.now heap.old at message_field → HasPlace world.now heap.old at cause_field → Does world.now heap.old (λ s names w. calls.with_arguments s.classes w rule.SetMessageAndCause (name_of s.heads names at) (held s.heads names text) (held s.heads names cause)) heap.new result }
+    ensures work { Does world.now heap.old (λ s names w. calls.with_arguments s.classes w rule.SetMessageAndCause (name_of s.heads names at) (held s.heads names text) (held s.heads names cause)) heap.new result }
     ensures names { heap.new.names ≡ heap.old.names }
     ensures filled { (s : Setting) → AreFilled heap.old s → AreFilled heap.new s }
+    ensures changes { ChangesBy heap.old heap.new result }
 {
     if !is_text(heap, world, text) || !is_cause(heap, world, cause) {
         return Work::Misuses;
     }
-    write_hidden(heap, world, at, HiddenField::Message, text);
-    write_hidden(heap, world, at, HiddenField::Cause, cause);
+    write_reference(heap, world, at, HiddenField::Message, text);
+    write_reference(heap, world, at, HiddenField::Cause, cause);
     Work::Results(None, None)
+}
+
+// A new object of the class, which has no text; it is the last. A call that fails leaves the heap as it
+// was.
+fn make_exception(
+    alloc: Global,
+    heap: &mut Heap,
+    world: &World,
+    class: ClassId,
+) -> Result<Ref, AllocError>
+    requires class { class.0 < length world.now.heads }
+    requires plain { is_text_class (name_at world.now.heads class.0) ≡ false }
+    ensures made { IfOk result (λ at. MakesOf world.now class.0 heap.old heap.new at) }
+    ensures filled { OnOk result (KeepsFilled world.now class.0 heap.old heap.new) }
+    ensures last { IfOk result (λ at. IsLast heap.old heap.new at) }
+    ensures names { IsLonger heap.old heap.new }
+    ensures err { OnErr result (heap.new ≡ heap.old) }
+{
+    let _count = heap.count();
+    let types = field_types(alloc, world, class)?;
+    make(heap, class, false, types.as_slice())
 }
 
 /// Throws a new ClassNotFoundException with the name as its message. A call that fails leaves the heap
@@ -113,10 +140,11 @@ pub(crate) fn not_found(
     ensures work { IfOk result (λ work. AreWhole world.now heap.old → Does world.now heap.old (λ s names w. calls.not_found s.classes w (held s.heads names name)) heap.new work) }
     ensures names { IsLonger heap.old heap.new }
     ensures filled { IfOk result (λ work. StaysWhole world.now heap.old heap.new) }
+    ensures changes { IfOk result (λ work. ChangesBy heap.old heap.new work) }
     ensures err { OnErr result (heap.new ≡ heap.old) }
 {
     let class = class_there(world, b"java/lang/ClassNotFoundException");
-    let at = make_object(alloc, heap, world, class)?;
-    write_hidden(heap, world, at, HiddenField::Message, name);
+    let at = make_exception(alloc, heap, world, class)?;
+    write_reference(heap, world, at, HiddenField::Message, name);
     Ok(Work::Throws(at))
 }

@@ -1,7 +1,8 @@
 //! Fields of the library's objects that no code can name.
 
-ghost use Rattle.std.specs.Prelude.{◌≡◌, ◌<◌, length, slice_get, IfSome};
+ghost use Rattle.std.specs.Prelude.{◌≡◌, ℕ, ◌<◌, ◌≤◌, take, length, slice_get, IfSome};
 ghost use Rattle.std.specs.Option.{option_map};
+ghost use Rattle.class_machine.specs.declared.kinds.Element.{Element};
 ghost use Rattle.class_machine.specs.Descriptors.{element_of};
 ghost use Rattle.class_machine.specs.LibraryCalls as calls;
 ghost use Rattle.class_machine.specs.World as worlds;
@@ -10,7 +11,7 @@ ghost use Rattle.machine_requests.specs.Objects.{AreFilled};
 ghost use Rattle.machine_requests.specs.Shares.{Setting};
 ghost use Rattle.machine_requests.specs.Telling.{AreDistinct};
 ghost use Rattle.machine_fields.specs.Positions.{IsPlace, fields_of_class};
-ghost use Rattle.machine_rules.specs.Fields.{field_named, made_class, IsAtPlace, Reads, Writes};
+ghost use Rattle.machine_rules.specs.Fields.{field_named, made_class, AreWhole, IsAtPlace, Reads, Writes};
 ghost use Rattle.machine_rules.specs.Works.{Does};
 
 use crate::work::Work;
@@ -116,7 +117,7 @@ pub(crate) fn give_hidden(heap: &Heap, world: &World, at: Ref, field: HiddenFiel
     Work::Results(None, Some(read_hidden(heap, world, at, field)))
 }
 
-/// Gives the field of the object another value.
+/// Gives the field of the object another value; of an object that has no such field nothing changes.
 pub(crate) fn write_hidden(
     heap: &mut Heap,
     world: &World,
@@ -126,7 +127,7 @@ pub(crate) fn write_hidden(
 )
     requires known { at.0 < length heap.old.names }
     requires settled { Settled (length heap.old.names) value }
-    ensures written { Writes world.now heap.old at (field_named field) value heap.new }
+    ensures written { AreWhole world.now heap.old → Writes world.now heap.old at (field_named field) value heap.new }
     ensures names { heap.new.names ≡ heap.old.names }
     ensures filled { (s : Setting) → AreFilled heap.old s → AreFilled heap.new s }
 {
@@ -136,5 +137,33 @@ pub(crate) fn write_hidden(
     };
     if let Some(index) = position_of(world, class, field) {
         let _reply = put_field(heap, Some(at), true, index, element_of(field), value);
+    }
+}
+
+/// The same, of a field of references. The objects that were made before this one stay as they are.
+pub(crate) fn write_reference(
+    heap: &mut Heap,
+    world: &World,
+    at: Ref,
+    field: HiddenField,
+    value: Value,
+)
+    requires known { at.0 < length heap.old.names }
+    requires field { element_of (field_named field).member.descriptor ≡ Element.Reference }
+    requires settled { Settled (length heap.old.names) value }
+    ensures written { Writes world.now heap.old at (field_named field) value heap.new }
+    ensures names { heap.new.names ≡ heap.old.names }
+    ensures before { (count : ℕ) → count ≤ at.0 → take count heap.new.contents ≡ take count heap.old.contents }
+    ensures filled { (s : Setting) → AreFilled heap.old s → AreFilled heap.new s }
+{
+    let count = heap.len(at);
+    let Some(class) = made_class(heap, world, at) else {
+        return;
+    };
+    let Some(index) = position_of(world, class, field) else {
+        return;
+    };
+    if index < count {
+        heap.store(at, index, value);
     }
 }

@@ -2,26 +2,27 @@
 
 ghost use Rattle.std.specs.Prelude.{◌≡◌, ◌<◌, ◌++◌, true, length, is_some, Some, IfOk, OnErr, OnOk};
 ghost use Rattle.std.specs.Option.{option_map};
+ghost use Rattle.class_world.specs.Tables.{Known};
 ghost use Rattle.class_machine.specs.LibraryCalls as calls;
 ghost use Rattle.class_machine.specs.LibraryCalls.{line_feed};
-ghost use Rattle.machine_values.specs.declared.frames.Destination.TheVariants.{Appends};
 ghost use Rattle.machine_values.specs.declared.observed.Event.TheVariants.{Print};
 ghost use Rattle.machine_values.specs.Standing.{name_of};
-ghost use Rattle.machine_values.specs.Things.{text_at as kept_text};
 ghost use Rattle.machine_values.specs.States.{is_known_destination, is_known_object};
+ghost use Rattle.machine_requests.specs.Objects.{AreFilled};
 ghost use Rattle.machine_requests.specs.Replies.{IsLonger};
-ghost use Rattle.machine_rules.specs.Filling.{FillsAt, FillsTo};
+ghost use Rattle.machine_requests.specs.Shares.{Setting};
+ghost use Rattle.machine_rules.specs.Filling.{FillsStill};
 ghost use Rattle.machine_rules.specs.Finishing.{Sets, is_made_at, destination_of, reference_to, text_of};
 ghost use Rattle.machine_rules.specs.Library.{HasLibrary};
-ghost use Rattle.machine_rules.specs.Texts.{units_at};
-ghost use Rattle.machine_rules.specs.Works.{Does};
+ghost use Rattle.machine_rules.specs.Texts.{text_at, units_at};
+ghost use Rattle.machine_rules.specs.Works.{Does, ChangesBy};
 
 use crate::numbers::put_bytes;
-use crate::objects::{make_string, text_at};
+use crate::objects::{has_text, make_string, text_at};
 use crate::strings::{give_text, units_at};
 use crate::work::Work;
 use class_world::World;
-use machine_values::{Content, Destination, Event, Heap, Name, Ref, Value};
+use machine_values::{Destination, Event, Heap, Name, Ref, Value};
 use sqlite_items::Items;
 use std::alloc::{AllocError, Global};
 
@@ -43,12 +44,14 @@ fn is_made(heap: &Heap, at: Ref) -> bool
     matches!(heap.name(at), Name::Made(_, _))
 }
 
-/// Gives a buffer these units. A call that fails leaves the heap as it was.
+/// Gives a String or a buffer these units; a literal keeps its own. A call that fails leaves the heap as
+/// it was.
 pub(crate) fn fill(heap: &mut Heap, buffer: Ref, units: &[u16]) -> Result<(), AllocError>
-    requires { buffer.0 < length heap.old.names }
+    requires known { buffer.0 < length heap.old.names }
+    requires text { is_some (text_at heap.old buffer.0) ≡ true }
     ensures ok { OnOk result (Sets heap.old buffer units.now heap.new) }
     ensures names { heap.new.names ≡ heap.old.names }
-    ensures filled { OnOk result (FillsAt buffer heap.old heap.new) }
+    ensures filled { OnOk result ((s : Setting) → AreFilled heap.old s → AreFilled heap.new s) }
     ensures err { OnErr result (heap.new ≡ heap.old) }
 {
     if is_made(heap, buffer) {
@@ -58,29 +61,38 @@ pub(crate) fn fill(heap: &mut Heap, buffer: Ref, units: &[u16]) -> Result<(), Al
     }
 }
 
-fn holds_text(heap: &Heap, at: Ref) -> bool
-    requires { at.0 < length heap.now.names }
-    ensures { result ≡ is_some (kept_text heap.now at.0) }
-{
-    matches!(heap.content(at), Content::Text(_))
-}
-
-/// The units go to the end of a buffer. A call that fails leaves the heap as it was.
+/// The units go to the end of a String or a buffer; a literal keeps its own. A call that fails leaves the
+/// heap as it was.
 pub(crate) fn append(heap: &mut Heap, buffer: Ref, units: &[u16]) -> Result<(), AllocError>
-    requires { buffer.0 < length heap.old.names }
+    requires known { buffer.0 < length heap.old.names }
+    requires text { is_some (text_at heap.old buffer.0) ≡ true }
     ensures ok { OnOk result (Sets heap.old buffer (units_at heap.old buffer.0 ++ units.now) heap.new) }
     ensures names { heap.new.names ≡ heap.old.names }
-    ensures filled { OnOk result (FillsAt buffer heap.old heap.new) }
+    ensures filled { OnOk result ((s : Setting) → AreFilled heap.old s → AreFilled heap.new s) }
     ensures err { OnErr result (heap.new ≡ heap.old) }
 {
-    if !is_made(heap, buffer) {
-        return Ok(());
-    }
-    if holds_text(heap, buffer) {
+    if is_made(heap, buffer) {
         heap.append(buffer, units)
     } else {
-        heap.set_text(buffer, units)
+        Ok(())
     }
+}
+
+// The units go to the end of the buffer, which is given; what holds no text is no buffer. A call that
+// fails leaves the heap as it was.
+fn append_and_give(heap: &mut Heap, buffer: Ref, units: &[u16]) -> Result<Work, AllocError>
+    requires { buffer.0 < length heap.old.names }
+    ensures work { IfOk result (λ work. (k : Known) → Does k heap.old (λ s names w. calls.appended units.now (name_of s.heads names buffer) w) heap.new work) }
+    ensures names { heap.new.names ≡ heap.old.names }
+    ensures filled { IfOk result (λ work. (s : Setting) → AreFilled heap.old s → AreFilled heap.new s) }
+    ensures changes { IfOk result (λ work. ChangesBy heap.old heap.new work) }
+    ensures err { OnErr result (heap.new ≡ heap.old) }
+{
+    if !has_text(heap, buffer) {
+        return Ok(Work::Misuses);
+    }
+    append(heap, buffer, units)?;
+    Ok(Work::Results(None, Some(Value::Reference(buffer))))
 }
 
 /// What is done with a text that no String holds yet.
@@ -95,7 +107,8 @@ pub(crate) fn finish_units(
     requires to { is_known_destination (length heap.old.names) to ≡ true }
     ensures work { IfOk result (λ work. Does world.now heap.old (λ s names w. calls.finish_units (destination_of s names to) units.now w) heap.new work) }
     ensures names { IsLonger heap.old heap.new }
-    ensures filled { IfOk result (λ work. FillsTo world.now to heap.old heap.new) }
+    ensures filled { IfOk result (λ work. FillsStill world.now heap.old heap.new) }
+    ensures changes { IfOk result (λ work. ChangesBy heap.old heap.new work) }
     ensures err { OnErr result (heap.new ≡ heap.old) }
 {
     match to {
@@ -103,16 +116,13 @@ pub(crate) fn finish_units(
             let event = printed(alloc, units, line)?;
             Ok(Work::Results(Some(event), None))
         }
-        Destination::Appends(buffer) => {
-            append(heap, buffer, units)?;
-            Ok(Work::Results(None, Some(Value::Reference(buffer))))
-        }
+        Destination::Appends(buffer) => append_and_give(heap, buffer, units),
         Destination::Gives => give_text(heap, world, units),
     }
 }
 
-// Makes a String of the units, and appends them to the buffer. A call that fails leaves the heap as it
-// was.
+// Makes a String of the units, and appends them to the buffer; what holds no text is no buffer. A call
+// that fails leaves the heap as it was.
 fn make_and_append(
     heap: &mut Heap,
     world: &World,
@@ -123,9 +133,13 @@ fn make_and_append(
     requires buffer { buffer.0 < length heap.old.names }
     ensures work { IfOk result (λ work. Does world.now heap.old (λ s names w. calls.finish_made (calls.Appends (name_of s.heads names buffer)) w (Some units.now)) heap.new work) }
     ensures names { IsLonger heap.old heap.new }
-    ensures filled { IfOk result (λ work. FillsTo world.now (Appends buffer) heap.old heap.new) }
+    ensures filled { IfOk result (λ work. FillsStill world.now heap.old heap.new) }
+    ensures changes { IfOk result (λ work. ChangesBy heap.old heap.new work) }
     ensures err { OnErr result (heap.new ≡ heap.old) }
 {
+    if !has_text(heap, buffer) {
+        return Ok(Work::Misuses);
+    }
     let count = heap.count();
     make_string(heap, world, units)?;
     match append(heap, buffer, units) {
@@ -149,7 +163,8 @@ pub(crate) fn finish_made(
     requires to { is_known_destination (length heap.old.names) to ≡ true }
     ensures work { IfOk result (λ work. Does world.now heap.old (λ s names w. calls.finish_made (destination_of s names to) w (Some units.now)) heap.new work) }
     ensures names { IsLonger heap.old heap.new }
-    ensures filled { IfOk result (λ work. FillsTo world.now to heap.old heap.new) }
+    ensures filled { IfOk result (λ work. FillsStill world.now heap.old heap.new) }
+    ensures changes { IfOk result (λ work. ChangesBy heap.old heap.new work) }
     ensures err { OnErr result (heap.new ≡ heap.old) }
 {
     match to {
@@ -202,7 +217,8 @@ pub(crate) fn finish_text(
     requires text { is_known_object (length heap.old.names) text ≡ true }
     ensures work { IfOk result (λ work. Does world.now heap.old (λ s names w. calls.finish_text (destination_of s names to) (option_map (name_of s.heads names) text) (text_of heap.old text) w) heap.new work) }
     ensures names { IsLonger heap.old heap.new }
-    ensures filled { IfOk result (λ work. FillsTo world.now to heap.old heap.new) }
+    ensures filled { IfOk result (λ work. FillsStill world.now heap.old heap.new) }
+    ensures changes { IfOk result (λ work. ChangesBy heap.old heap.new work) }
     ensures err { OnErr result (heap.new ≡ heap.old) }
 {
     match to {

@@ -14,7 +14,7 @@ ghost use Rattle.machine_requests.specs.Replies.{IsLonger};
 ghost use Rattle.machine_rules.specs.Filling.{FillsStill};
 ghost use Rattle.machine_rules.specs.Library.{HasLibrary};
 ghost use Rattle.machine_rules.specs.Texts.{class_object_text, is_same_place};
-ghost use Rattle.machine_rules.specs.Works.{Does};
+ghost use Rattle.machine_rules.specs.Works.{Does, ChangesBy};
 
 use crate::classes::{class_of, number_of, type_name};
 use crate::numbers::{count_int, put_hexadecimal};
@@ -79,6 +79,7 @@ pub(crate) fn describe(
     ensures work { IfOk result (λ work. Does world.now heap.old (λ s names w. calls.on_object s.classes w rule.Describe (name_of s.heads names at)) heap.new work) }
     ensures names { IsLonger heap.old heap.new }
     ensures filled { IfOk result (λ work. FillsStill world.now heap.old heap.new) }
+    ensures changes { IfOk result (λ work. ChangesBy heap.old heap.new work) }
     ensures err { OnErr result (heap.new ≡ heap.old) }
 {
     let units = description(alloc, heap, world, at)?;
@@ -113,6 +114,7 @@ pub(crate) fn class_name(
     ensures work { IfOk result (λ work. Does world.now heap.old (λ s names w. calls.class_name w (name_of s.heads names at)) heap.new work) }
     ensures names { IsLonger heap.old heap.new }
     ensures filled { IfOk result (λ work. FillsStill world.now heap.old heap.new) }
+    ensures changes { IfOk result (λ work. ChangesBy heap.old heap.new work) }
     ensures err { OnErr result (heap.new ≡ heap.old) }
 {
     let text = class_object_text(alloc, heap, at)?;

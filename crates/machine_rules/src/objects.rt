@@ -1,13 +1,12 @@
 //! Texts of objects, and new Strings.
 
-ghost use Rattle.std.specs.Prelude.{◌≡◌, ◌<◌, length, IfOk, OnErr};
+ghost use Rattle.std.specs.Prelude.{◌≡◌, ◌<◌, length, is_some, IfOk, OnErr};
 ghost use Rattle.std.specs.Option.{option_map};
 ghost use Rattle.machine_requests.specs.Replies.{IsLonger};
 ghost use Rattle.machine_rules.specs.Filling.{FillsStill};
-ghost use Rattle.machine_rules.specs.Finishing.{Grows};
 ghost use Rattle.machine_rules.specs.Library.{HasLibrary};
 ghost use Rattle.machine_rules.specs.Texts.{text_at};
-ghost use Rattle.machine_rules.specs.Works.{AddsText};
+ghost use Rattle.machine_rules.specs.Works.{AddsText, Grows};
 
 use crate::classes::string_class;
 use class_world::World;
@@ -23,6 +22,17 @@ pub(crate) fn text_at(heap: &Heap, at: Ref) -> Option<&[u16]>
         (Name::Literal(units), _) => Some(units.as_slice()),
         (Name::Made(_, _), Content::Text(units)) => Some(units.as_slice()),
         _ => None,
+    }
+}
+
+/// Whether the object is a String or a buffer.
+pub(crate) fn has_text(heap: &Heap, at: Ref) -> bool
+    requires { at.0 < length heap.now.names }
+    ensures { result ≡ is_some (text_at heap.now at.0) }
+{
+    match text_at(heap, at) {
+        Some(_) => true,
+        None => false,
     }
 }
 

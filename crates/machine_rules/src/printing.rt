@@ -3,12 +3,12 @@
 ghost use Rattle.std.specs.Prelude.{◌≡◌, ◌<◌, ◌∷◌, [], length, IfOk, OnErr};
 ghost use Rattle.boot_library.specs.declared.rule.LibraryRule.TheVariants as rule;
 ghost use Rattle.class_machine.specs.LibraryCalls as calls;
-ghost use Rattle.machine_values.specs.declared.frames.Destination.TheVariants.{Appends, Prints, Gives};
+ghost use Rattle.machine_values.specs.declared.frames.Destination.TheVariants.{Prints, Gives};
 ghost use Rattle.machine_values.specs.Standing.{name_of, held, Settled};
 ghost use Rattle.machine_requests.specs.Replies.{IsLonger};
-ghost use Rattle.machine_rules.specs.Filling.{FillsTo, FillsStill};
+ghost use Rattle.machine_rules.specs.Filling.{FillsStill};
 ghost use Rattle.machine_rules.specs.Library.{HasLibrary};
-ghost use Rattle.machine_rules.specs.Works.{Does};
+ghost use Rattle.machine_rules.specs.Works.{Does, ChangesBy};
 
 use crate::finishing::finish_units;
 use crate::spelling::spelled;
@@ -32,7 +32,8 @@ pub(crate) fn append_value(
     requires value { Settled (length heap.old.names) value }
     ensures work { IfOk result (λ work. Does world.now heap.old (λ s names w. calls.with_argument s.classes w (rule.Append how) (name_of s.heads names at) (held s.heads names value)) heap.new work) }
     ensures names { IsLonger heap.old heap.new }
-    ensures filled { IfOk result (λ work. FillsTo world.now (Appends at) heap.old heap.new) }
+    ensures filled { IfOk result (λ work. FillsStill world.now heap.old heap.new) }
+    ensures changes { IfOk result (λ work. ChangesBy heap.old heap.new work) }
     ensures err { OnErr result (heap.new ≡ heap.old) }
 {
     spelled(alloc, heap, world, how, value, Destination::Appends(at))
@@ -54,6 +55,7 @@ pub(crate) fn print_value(
     ensures work { IfOk result (λ work. Does world.now heap.old (λ s names w. calls.with_argument s.classes w (rule.Print how line) (name_of s.heads names at) (held s.heads names value)) heap.new work) }
     ensures names { IsLonger heap.old heap.new }
     ensures filled { IfOk result (λ work. FillsStill world.now heap.old heap.new) }
+    ensures changes { IfOk result (λ work. ChangesBy heap.old heap.new work) }
     ensures err { OnErr result (heap.new ≡ heap.old) }
 {
     spelled(alloc, heap, world, how, value, Destination::Prints(line))
@@ -71,6 +73,7 @@ pub(crate) fn print_line(
     ensures work { IfOk result (λ work. Does world.now heap.old (λ s names w. calls.on_object s.classes w rule.PrintLine (name_of s.heads names at)) heap.new work) }
     ensures names { IsLonger heap.old heap.new }
     ensures filled { IfOk result (λ work. FillsStill world.now heap.old heap.new) }
+    ensures changes { IfOk result (λ work. ChangesBy heap.old heap.new work) }
     ensures err { OnErr result (heap.new ≡ heap.old) }
 {
     finish_units(alloc, heap, world, Destination::Prints(true), &[])
@@ -89,6 +92,7 @@ pub(crate) fn value_of(
     ensures work { IfOk result (λ work. Does world.now heap.old (λ s names w. calls.by_static_rule s.classes w (rule.ValueOf how) (held s.heads names value ∷ [])) heap.new work) }
     ensures names { IsLonger heap.old heap.new }
     ensures filled { IfOk result (λ work. FillsStill world.now heap.old heap.new) }
+    ensures changes { IfOk result (λ work. ChangesBy heap.old heap.new work) }
     ensures err { OnErr result (heap.new ≡ heap.old) }
 {
     spelled(alloc, heap, world, how, value, Destination::Gives)

@@ -6,11 +6,11 @@ ghost use Rattle.class_machine.specs.LibraryCalls as calls;
 ghost use Rattle.machine_values.specs.Standing.{name_of, held, Settled};
 ghost use Rattle.machine_values.specs.States.{is_known_object};
 ghost use Rattle.machine_requests.specs.Replies.{IsLonger};
-ghost use Rattle.machine_rules.specs.Filling.{FillsTo};
+ghost use Rattle.machine_rules.specs.Filling.{FillsStill};
 ghost use Rattle.machine_rules.specs.Finishing.{text_of};
 ghost use Rattle.machine_rules.specs.Library.{HasLibrary};
 ghost use Rattle.machine_rules.specs.Waiting.{behind_class, wait_of};
-ghost use Rattle.machine_rules.specs.Works.{Does, IsKnownWait};
+ghost use Rattle.machine_rules.specs.Works.{Does, DoesAnywhere, IsKnownWait, ChangesBy};
 
 use crate::classes::{class_of, is_string};
 use crate::finishing::{finish_made, finish_text};
@@ -72,7 +72,8 @@ fn finish_wait(
     requires text { is_known_object (length heap.old.names) text ≡ true }
     ensures work { IfOk result (λ work. Does world.now heap.old (λ s names w. calls.finish_text (wait_of s names wait.now) (option_map (name_of s.heads names) text) (text_of heap.old text) w) heap.new work) }
     ensures names { IsLonger heap.old heap.new }
-    ensures filled { IfOk result (λ work. FillsTo world.now wait.now.destination heap.old heap.new) }
+    ensures filled { IfOk result (λ work. FillsStill world.now heap.old heap.new) }
+    ensures changes { IfOk result (λ work. ChangesBy heap.old heap.new work) }
     ensures err { OnErr result (heap.new ≡ heap.old) }
 {
     match wait.describes {
@@ -95,9 +96,10 @@ pub fn resume(
     requires library { HasLibrary world.now }
     requires wait { IsKnownWait (length heap.old.names) wait.now }
     requires value { Settled (length heap.old.names) value }
-    ensures work { IfOk result (λ work. Does world.now heap.old (λ s names w. calls.resume (wait_of s names wait.now) (held s.heads names value) w) heap.new work) }
+    ensures work { IfOk result (λ work. DoesAnywhere world.now heap.old (λ s names w. calls.resume (wait_of s names wait.now) (held s.heads names value) w) heap.new work) }
     ensures names { IsLonger heap.old heap.new }
-    ensures filled { IfOk result (λ work. FillsTo world.now wait.now.destination heap.old heap.new) }
+    ensures filled { IfOk result (λ work. FillsStill world.now heap.old heap.new) }
+    ensures changes { IfOk result (λ work. ChangesBy heap.old heap.new work) }
     ensures err { OnErr result (heap.new ≡ heap.old) }
 {
     match value {

@@ -11,11 +11,11 @@ ghost use Rattle.machine_values.specs.Standing.{name_of, held, Settled};
 ghost use Rattle.machine_values.specs.States.{is_known_object};
 ghost use Rattle.machine_values.specs.Things.{Things};
 ghost use Rattle.machine_requests.specs.Replies.{IsLonger};
-ghost use Rattle.machine_rules.specs.Fields.{AreWhole};
+ghost use Rattle.machine_rules.specs.Fields.{AreWhole, StaysWhole};
 ghost use Rattle.machine_rules.specs.Filling.{FillsStill};
 ghost use Rattle.machine_rules.specs.Library.{HasLibrary};
-ghost use Rattle.machine_rules.specs.Ruling.{ruled, TakesFields, ServesRule, FillsBy};
-ghost use Rattle.machine_rules.specs.Works.{Does};
+ghost use Rattle.machine_rules.specs.Ruling.{ruled};
+ghost use Rattle.machine_rules.specs.Works.{Does, DoesWhole, ChangesBy};
 
 use crate::boxes::{box_hash, box_of, same_box, set_box, unbox};
 use crate::buffering::fill_buffer;
@@ -56,6 +56,7 @@ fn part_of(
     ensures work { IfOk result (λ work. Does world.now heap.old (λ s names w. calls.with_arguments s.classes w rule.Substring (name_of s.heads names at) (held s.heads names begin) (held s.heads names end)) heap.new work) }
     ensures names { IsLonger heap.old heap.new }
     ensures filled { IfOk result (λ work. FillsStill world.now heap.old heap.new) }
+    ensures changes { IfOk result (λ work. ChangesBy heap.old heap.new work) }
     ensures err { OnErr result (heap.new ≡ heap.old) }
 {
     match (begin, end) {
@@ -87,6 +88,7 @@ fn on_object(
     ensures work { IfOk result (λ work. Does world.now heap.old (λ s names w. calls.on_object s.classes w rule (name_of s.heads names at)) heap.new work) }
     ensures names { IsLonger heap.old heap.new }
     ensures filled { IfOk result (λ work. FillsStill world.now heap.old heap.new) }
+    ensures changes { IfOk result (λ work. ChangesBy heap.old heap.new work) }
     ensures err { OnErr result (heap.new ≡ heap.old) }
 {
     match rule {
@@ -122,9 +124,10 @@ fn with_argument(
     requires library { HasLibrary world.now }
     requires at { at.0 < length heap.old.names }
     requires value { Settled (length heap.old.names) value }
-    ensures work { IfOk result (λ work. AreWhole world.now heap.old → TakesFields world.now heap.old rule at → Does world.now heap.old (λ s names w. calls.with_argument s.classes w rule (name_of s.heads names at) (held s.heads names value)) heap.new work) }
+    ensures work { IfOk result (λ work. AreWhole world.now heap.old → Does world.now heap.old (λ s names w. calls.with_argument s.classes w rule (name_of s.heads names at) (held s.heads names value)) heap.new work) }
     ensures names { IsLonger heap.old heap.new }
-    ensures filled { IfOk result (λ work. FillsBy world.now rule (Some at) heap.old heap.new) }
+    ensures filled { IfOk result (λ work. StaysWhole world.now heap.old heap.new) }
+    ensures changes { IfOk result (λ work. ChangesBy heap.old heap.new work) }
     ensures err { OnErr result (heap.new ≡ heap.old) }
 {
     match rule {
@@ -156,9 +159,10 @@ fn with_arguments(
     requires at { at.0 < length heap.old.names }
     requires value { Settled (length heap.old.names) value }
     requires other { Settled (length heap.old.names) other }
-    ensures work { IfOk result (λ work. AreWhole world.now heap.old → TakesFields world.now heap.old rule at → Does world.now heap.old (λ s names w. calls.with_arguments s.classes w rule (name_of s.heads names at) (held s.heads names value) (held s.heads names other)) heap.new work) }
+    ensures work { IfOk result (λ work. AreWhole world.now heap.old → Does world.now heap.old (λ s names w. calls.with_arguments s.classes w rule (name_of s.heads names at) (held s.heads names value) (held s.heads names other)) heap.new work) }
     ensures names { IsLonger heap.old heap.new }
-    ensures filled { IfOk result (λ work. FillsBy world.now rule (Some at) heap.old heap.new) }
+    ensures filled { IfOk result (λ work. StaysWhole world.now heap.old heap.new) }
+    ensures changes { IfOk result (λ work. ChangesBy heap.old heap.new work) }
     ensures err { OnErr result (heap.new ≡ heap.old) }
 {
     match rule {
@@ -180,7 +184,8 @@ fn static_with(
     requires value { Settled (length heap.old.names) value }
     ensures work { IfOk result (λ work. AreWhole world.now heap.old → Does world.now heap.old (λ s names w. calls.by_static_rule s.classes w rule (held s.heads names value ∷ [])) heap.new work) }
     ensures names { IsLonger heap.old heap.new }
-    ensures filled { IfOk result (λ work. FillsBy world.now rule None heap.old heap.new) }
+    ensures filled { IfOk result (λ work. StaysWhole world.now heap.old heap.new) }
+    ensures changes { IfOk result (λ work. ChangesBy heap.old heap.new work) }
     ensures err { OnErr result (heap.new ≡ heap.old) }
 {
     match rule {
@@ -205,7 +210,8 @@ fn by_static_rule(
     requires given { AllByRecursion (Settled (length heap.old.names)) given.now }
     ensures work { IfOk result (λ work. AreWhole world.now heap.old → Does world.now heap.old (λ s names w. calls.by_static_rule s.classes w rule (map (held s.heads names) given.now)) heap.new work) }
     ensures names { IsLonger heap.old heap.new }
-    ensures filled { IfOk result (λ work. FillsBy world.now rule None heap.old heap.new) }
+    ensures filled { IfOk result (λ work. StaysWhole world.now heap.old heap.new) }
+    ensures changes { IfOk result (λ work. ChangesBy heap.old heap.new work) }
     ensures err { OnErr result (heap.new ≡ heap.old) }
 {
     match given {
@@ -253,9 +259,10 @@ fn by_object_rule(
     requires library { HasLibrary world.now }
     requires at { at.0 < length heap.old.names }
     requires given { AllByRecursion (Settled (length heap.old.names)) given.now }
-    ensures work { IfOk result (λ work. AreWhole world.now heap.old → TakesFields world.now heap.old rule at → Does world.now heap.old (λ s names w. calls.by_rule s.classes w rule (name_of s.heads names at) (map (held s.heads names) given.now)) heap.new work) }
+    ensures work { IfOk result (λ work. AreWhole world.now heap.old → Does world.now heap.old (λ s names w. calls.by_rule s.classes w rule (name_of s.heads names at) (map (held s.heads names) given.now)) heap.new work) }
     ensures names { IsLonger heap.old heap.new }
-    ensures filled { IfOk result (λ work. FillsBy world.now rule (Some at) heap.old heap.new) }
+    ensures filled { IfOk result (λ work. StaysWhole world.now heap.old heap.new) }
+    ensures changes { IfOk result (λ work. ChangesBy heap.old heap.new work) }
     ensures err { OnErr result (heap.new ≡ heap.old) }
 {
     match given {
@@ -269,8 +276,8 @@ fn by_object_rule(
 /// What a call of a method of the library does, by the method's rule: of a static method without a
 /// receiver. A call that fails leaves the heap as it was.
 ///
-/// The receiver's class has the fields that the rule writes, where each object has a value for each
-/// field of its class.
+/// What the work made of the heap can be taken back where it gives no result: then at most objects were
+/// added.
 pub fn by_rule(
     alloc: Global,
     heap: &mut Heap,
@@ -282,9 +289,10 @@ pub fn by_rule(
     requires library { HasLibrary world.now }
     requires receiver { is_known_object (length heap.old.names) receiver ≡ true }
     requires given { AllByRecursion (Settled (length heap.old.names)) given.now }
-    ensures work { IfOk result (λ work. AreWhole world.now heap.old → ServesRule world.now heap.old rule receiver → Does world.now heap.old (λ s names w. ruled s.classes w rule (option_map (name_of s.heads names) receiver) (map (held s.heads names) given.now)) heap.new work) }
+    ensures work { IfOk result (λ work. DoesWhole world.now heap.old (λ s names w. ruled s.classes w rule (option_map (name_of s.heads names) receiver) (map (held s.heads names) given.now)) heap.new work) }
     ensures names { IsLonger heap.old heap.new }
-    ensures filled { IfOk result (λ work. FillsBy world.now rule receiver heap.old heap.new) }
+    ensures filled { IfOk result (λ work. StaysWhole world.now heap.old heap.new) }
+    ensures changes { IfOk result (λ work. ChangesBy heap.old heap.new work) }
     ensures err { OnErr result (heap.new ≡ heap.old) }
 {
     match receiver {

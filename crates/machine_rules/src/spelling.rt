@@ -9,12 +9,12 @@ ghost use Rattle.class_machine.specs.LibraryCalls as calls;
 ghost use Rattle.machine_values.specs.Standing.{held, Settled};
 ghost use Rattle.machine_values.specs.States.{is_known_destination};
 ghost use Rattle.machine_requests.specs.Replies.{IsLonger};
-ghost use Rattle.machine_rules.specs.Filling.{FillsTo};
+ghost use Rattle.machine_rules.specs.Filling.{FillsStill};
 ghost use Rattle.machine_rules.specs.Finishing.{destination_of};
 ghost use Rattle.machine_rules.specs.Library.{HasLibrary};
 ghost use Rattle.machine_rules.specs.Spelling.{number_text, plain_text};
 ghost use Rattle.machine_rules.specs.Texts.{argument_at};
-ghost use Rattle.machine_rules.specs.Works.{Does};
+ghost use Rattle.machine_rules.specs.Works.{Does, ChangesBy};
 
 use crate::arguments::{TextArgument, text_argument};
 use crate::asking::ask_text;
@@ -100,7 +100,8 @@ fn spelled_object(
     requires to { is_known_destination (length heap.old.names) to ≡ true }
     ensures work { IfOk result (λ work. Does world.now heap.old (λ s names w. calls.spelled s.classes w OfObject (held s.heads names value) (destination_of s names to)) heap.new work) }
     ensures names { IsLonger heap.old heap.new }
-    ensures filled { IfOk result (λ work. FillsTo world.now to heap.old heap.new) }
+    ensures filled { IfOk result (λ work. FillsStill world.now heap.old heap.new) }
+    ensures changes { IfOk result (λ work. ChangesBy heap.old heap.new work) }
     ensures err { OnErr result (heap.new ≡ heap.old) }
 {
     match value {
@@ -125,7 +126,8 @@ fn spelled_plain(
     requires to { is_known_destination (length heap.old.names) to ≡ true }
     ensures work { IfOk result (λ work. Does world.now heap.old (λ s names w. calls.spelled s.classes w how (held s.heads names value) (destination_of s names to)) heap.new work) }
     ensures names { IsLonger heap.old heap.new }
-    ensures filled { IfOk result (λ work. FillsTo world.now to heap.old heap.new) }
+    ensures filled { IfOk result (λ work. FillsStill world.now heap.old heap.new) }
+    ensures changes { IfOk result (λ work. ChangesBy heap.old heap.new work) }
     ensures err { OnErr result (heap.new ≡ heap.old) }
 {
     match plain_text(alloc, heap, world, how, value)? {
@@ -148,7 +150,8 @@ pub(crate) fn spelled(
     requires to { is_known_destination (length heap.old.names) to ≡ true }
     ensures work { IfOk result (λ work. Does world.now heap.old (λ s names w. calls.spelled s.classes w how (held s.heads names value) (destination_of s names to)) heap.new work) }
     ensures names { IsLonger heap.old heap.new }
-    ensures filled { IfOk result (λ work. FillsTo world.now to heap.old heap.new) }
+    ensures filled { IfOk result (λ work. FillsStill world.now heap.old heap.new) }
+    ensures changes { IfOk result (λ work. ChangesBy heap.old heap.new work) }
     ensures err { OnErr result (heap.new ≡ heap.old) }
 {
     match how {

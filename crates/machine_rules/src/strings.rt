@@ -10,7 +10,7 @@ ghost use Rattle.machine_requests.specs.Replies.{IsLonger};
 ghost use Rattle.machine_rules.specs.Filling.{FillsStill};
 ghost use Rattle.machine_rules.specs.Library.{HasLibrary};
 ghost use Rattle.machine_rules.specs.Texts.{units_at, unit_in, same_units_as, truth_value, part_in};
-ghost use Rattle.machine_rules.specs.Works.{Does};
+ghost use Rattle.machine_rules.specs.Works.{Does, ChangesBy};
 
 use crate::arguments::{TextArgument, text_argument};
 use crate::classes::is_string;
@@ -39,6 +39,7 @@ pub(crate) fn give_text(heap: &mut Heap, world: &World, units: &[u16]) -> Result
     ensures work { IfOk result (λ work. Does world.now heap.old (λ s names w. calls.new_text units.now w) heap.new work) }
     ensures names { IsLonger heap.old heap.new }
     ensures filled { IfOk result (λ work. FillsStill world.now heap.old heap.new) }
+    ensures changes { IfOk result (λ work. ChangesBy heap.old heap.new work) }
     ensures err { OnErr result (heap.new ≡ heap.old) }
 {
     let at = make_string(heap, world, units)?;
@@ -138,6 +139,7 @@ pub(crate) fn concat(
     ensures work { IfOk result (λ work. Does world.now heap.old (λ s names w. calls.with_argument s.classes w rule.Concat (name_of s.heads names at) (held s.heads names other)) heap.new work) }
     ensures names { IsLonger heap.old heap.new }
     ensures filled { IfOk result (λ work. FillsStill world.now heap.old heap.new) }
+    ensures changes { IfOk result (λ work. ChangesBy heap.old heap.new work) }
     ensures err { OnErr result (heap.new ≡ heap.old) }
 {
     let all = match text_argument(heap, world, other) {
@@ -172,6 +174,7 @@ pub(crate) fn substring(
     ensures work { IfOk result (λ work. Does world.now heap.old (λ s names w. calls.substring w (calls.units_in w (name_of s.heads names at)) begin end) heap.new work) }
     ensures names { IsLonger heap.old heap.new }
     ensures filled { IfOk result (λ work. FillsStill world.now heap.old heap.new) }
+    ensures changes { IfOk result (λ work. ChangesBy heap.old heap.new work) }
     ensures err { OnErr result (heap.new ≡ heap.old) }
 {
     let units = match part(units_at(heap, at), begin, end) {

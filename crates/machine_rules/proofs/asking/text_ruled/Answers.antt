@@ -35,5 +35,6 @@ returns-in_default c =
           c.finish_ruled.ensures.work;
       names = c.finish_ruled.ensures.names;
       filled = c.finish_ruled.ensures.filled;
+      changes = c.finish_ruled.ensures.changes;
       err = c.finish_ruled.ensures.err;
     }

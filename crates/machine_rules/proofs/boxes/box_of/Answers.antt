@@ -1,8 +1,8 @@
-use Rattle.std.proofs.Common.{sym, ◌∙◌, ap, ◌≡◌, ℕ, List}
-use Rattle.std.specs.Prelude.{Some, is_some}
+use Rattle.std.proofs.Common.{◌∙◌, ap, ℕ, List}
+use Rattle.std.specs.Prelude.{is_some}
 use Rattle.class_heads.specs.Hierarchy.{place_of}
 use Rattle.class_machine.specs.World.{value_field, box_class}
-use Rattle.machine_rules.proofs.LibraryFields.{box_place, knows_boxes}
+use Rattle.machine_rules.proofs.LibraryClasses.{knows_boxes}
 use Rattle.machine_rules.proofs.NewWork.{new_written, new_whole, longer_settled}
 use Rattle.machine_rules.proofs.BoxWork.{box_made, box_text}
 use Rattle.machine_rules.proofs.boxes.box_of.Goals as goal
@@ -19,11 +19,9 @@ returns-clause-work c whole =
     let type = c.args.boxed in
     let class = c.class_there-class.result.0 in
     let named = c.class_there-class.ensures.name ∙ c.box_class.ensures in
-    let place : place_of k.heads (box_class type) ≡ Some class = ap (place_of k.heads) (sym c.box_class.ensures) ∙ c.class_there-class.ensures.place in
     box_made k c.args.heap.now c.write_hidden.new.heap type c.in_ok-at.at c.args.value
     (new_written k c.args.heap.now c.make_object.new.heap c.write_hidden.new.heap class (box_class type) c.in_ok-at.at (value_field type) c.args.value named (box_text type) c.in_ok-at.ensures.made c.in_ok-at.ensures.filled c.make_object.ensures.names
-    c.write_hidden.ensures.written c.write_hidden.ensures.names c.requires.value
-    (λ distinct. box_place k c.requires.library distinct type class place named c.class_there-class.ensures.within)) whole
+    c.write_hidden.ensures.written c.write_hidden.ensures.names c.requires.value) whole
 
 pub returns-clause-filled : goal.returns-clause-filled
 returns-clause-filled c =

@@ -1,15 +1,15 @@
 use Rattle.std.proofs.Common.{sym, arith}
 use Rattle.machine_rules.specs.Fields.{field_named}
-use Rattle.machine_rules.proofs.HiddenWork.{of_class, near, written_there}
+use Rattle.machine_rules.proofs.HiddenWork.{written_elsewhere, written_nowhere, written_there}
 use Rattle.machine_rules.proofs.fields.write_hidden.Goals as goal
 
 pub returns-in_default-clause-written : goal.returns-in_default-clause-written
-returns-in_default-clause-written c names others w distinct whole has holds =
-    absurd (of_class c.args.world.now c.args.heap.now c.args.at (field_named c.args.field) c.requires.known whole has names others w distinct holds (sym c.in_default.ensures.class))
+returns-in_default-clause-written c whole =
+    written_elsewhere c.args.world.now c.args.heap.now c.args.at (field_named c.args.field) c.args.value c.requires.known (sym c.in_default.ensures.class)
 
 pub returns-in_default-position_of-clause-written : goal.returns-in_default-position_of-clause-written
-returns-in_default-position_of-clause-written c names others w distinct whole has holds =
-    absurd (near c.args.world.now c.args.heap.now c.args.at (field_named c.args.field) c.requires.known whole has c.in-Some.class.0 distinct (sym c.in-Some.ensures.class) c.in_default-position_of.ensures (omega (arith, c.len-count.ensures, c.len-count.type_inv)))
+returns-in_default-position_of-clause-written c whole =
+    written_nowhere c.args.world.now c.args.heap.now c.args.at (field_named c.args.field) c.args.value c.requires.known c.in-Some.class.0 (sym c.in-Some.ensures.class) c.in_default-position_of.ensures (omega (arith, c.len-count.ensures, c.len-count.type_inv))
 
 pub returns-in-Some-position_of-clause-written : goal.returns-in-Some-position_of-clause-written
 returns-in-Some-position_of-clause-written c =

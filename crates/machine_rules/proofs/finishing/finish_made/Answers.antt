@@ -6,9 +6,6 @@ use Rattle.machine_rules.specs.declared.work.Work.TheVariants.{Results}
 use Rattle.machine_rules.specs.Finishing.{destination_of}
 use Rattle.machine_rules.specs.Works.{Does}
 use Rattle.machine_rules.proofs.Finished.{made_printed}
-use Rattle.std.proofs.lemmas.Result.{IfOk-weaker}
-use Rattle.machine_rules.specs.Filling.{FillsTo}
-use Rattle.machine_rules.proofs.Filling.{still_to}
 use Rattle.machine_rules.proofs.finishing.finish_made.Goals as goal
 
 pub returns-in_ok-make_string-in-Prints-clause-work : goal.returns-in_ok-make_string-in-Prints-clause-work
@@ -31,13 +28,3 @@ returns-in-Gives-clause-work c =
     let things = c.args.heap.now in
     subst (λ (to : Destination). IfOk c.give_text.result (λ work. Does k things (λ s ns w. calls.finish_made (destination_of s ns to) w (Some c.args.units.now)) c.give_text.new.heap work)) (sym c.in-Gives.is)
     c.give_text.ensures.work
-
-pub returns-in_ok-make_string-in-Prints-clause-filled : goal.returns-in_ok-make_string-in-Prints-clause-filled
-returns-in_ok-make_string-in-Prints-clause-filled c = still_to c.args.world.now c.args.to c.args.heap.now c.make_string.new.heap c.in_ok-make_string-in-Prints.ensures.filled
-
-pub returns-in-Appends-clause-filled : goal.returns-in-Appends-clause-filled
-returns-in-Appends-clause-filled c =
-    subst (λ (to : Destination). IfOk c.make_and_append.result (λ work. FillsTo c.args.world.now to c.args.heap.now c.make_and_append.new.heap)) (sym c.in-Appends.is) c.make_and_append.ensures.filled
-
-pub returns-in-Gives-clause-filled : goal.returns-in-Gives-clause-filled
-returns-in-Gives-clause-filled c = IfOk-weaker c.give_text.result _ _ (λ work still. still_to c.args.world.now c.args.to c.args.heap.now c.give_text.new.heap still) c.give_text.ensures.filled

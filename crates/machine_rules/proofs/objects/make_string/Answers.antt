@@ -1,7 +1,7 @@
 use Rattle.std.proofs.Common.{ℕ, sym, subst}
 use Rattle.std.proofs.lemmas.Result.{IfOk-weaker}
 use Rattle.machine_values.specs.Things.{Things}
-use Rattle.machine_rules.specs.Finishing.{Grows}
+use Rattle.machine_rules.specs.Works.{Grows}
 use Rattle.machine_rules.specs.Works.{AddsText}
 use Rattle.machine_rules.proofs.Standing.{string_made, string_grows}
 use Rattle.machine_rules.specs.Filling.{FillsStill}

@@ -1,4 +1,4 @@
-use Rattle.std.proofs.Common.{sym, subst, rules, arith}
+use Rattle.std.proofs.Common.{sym, subst, rules}
 use Rattle.std.specs.Prelude.{ℤ}
 use Rattle.std.specs.Int.{w32}
 use mir.Val.{SFits}

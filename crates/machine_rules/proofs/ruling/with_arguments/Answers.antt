@@ -1,21 +1,7 @@
-use Rattle.std.proofs.Common.{ℕ, List, [], ◌∷◌, map, sym, subst}
-use Rattle.std.specs.Prelude.{Some, None, IfOk}
 use Rattle.std.proofs.lemmas.Result.{IfOk-weaker}
-use Rattle.boot_library.specs.declared.rule.LibraryRule.{LibraryRule}
-use Rattle.boot_library.specs.declared.rule.LibraryRule.TheVariants as rule
-use Rattle.class_machine.specs.LibraryCalls as calls
-use Rattle.machine_values.specs.Standing.{name_of, held}
-use Rattle.machine_rules.specs.declared.work.Work.TheVariants.{Results, Misuses}
-use Rattle.machine_rules.specs.Fields.{AreWhole}
-use Rattle.machine_rules.specs.Ruling.{TakesFields, FillsBy}
-use Rattle.machine_rules.specs.Works.{Does}
-use Rattle.machine_rules.proofs.Filling.{kept_still}
-use Rattle.machine_rules.proofs.OtherRules.{object_other, argument_other, arguments_other, static_other}
-use Rattle.machine_rules.proofs.RuledWork.{nothing_done, misused, no_index, same_longer, fills_same, fills_still, fills_whole, fills_plain, fills_append, fills_buffer}
+use Rattle.machine_rules.proofs.RuledWork.{whole_still}
 use Rattle.machine_rules.proofs.ruling.with_arguments.Goals as goal
 
 pub returns-in-Substring-clause-filled : goal.returns-in-Substring-clause-filled
 returns-in-Substring-clause-filled c =
-    let k = c.args.world.now in
-    let things = c.args.heap.now in
-    IfOk-weaker c.part_of.result _ _ (λ work fills. fills_still k c.args.rule (Some c.args.at) things c.part_of.new.heap c.requires.library fills) c.part_of.ensures.filled
+    IfOk-weaker c.part_of.result _ _ (λ work fills. whole_still c.args.world.now c.args.heap.now c.part_of.new.heap c.requires.library fills) c.part_of.ensures.filled
