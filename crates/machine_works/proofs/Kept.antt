@@ -32,3 +32,7 @@ keeps_both k a b c h g = record {
 pub on_equal : {T E : Type 0} (k : Known) (old new : MachineState) (r : Result T E) → OnErr r (new ≡ old) → OnErr r (Keeps k old new)
 on_equal k old new (Ok x) h = tt
 on_equal k old new (Err e) h = keeps_equal k old new h
+
+pub on_any : {T E P : Type 0} (r : Result T E) → P → OnErr r P
+on_any (Ok x) p = tt
+on_any (Err e) p = p

@@ -24,6 +24,7 @@ use Rattle.machine_values.specs.Types.{type_name}
 use Rattle.machine_requests.specs.Objects.{AreFilled}
 use Rattle.machine_requests.specs.Shares.{HasFrames, others_of}
 use Rattle.machine_rules.specs.declared.work.Work.{Work}
+use Rattle.machine_rules.specs.declared.work.Work.TheVariants.{Throws}
 use Rattle.machine_rules.specs.Works.{Works}
 use Rattle.machine_steps.specs.declared.step.Step.{Step}
 use Rattle.machine_steps.specs.Moves.{Turning, moved_by}
@@ -84,6 +85,11 @@ pub record StandsAtWork (k : Known) (state : MachineState) (work : Work) : Type 
   pub there : State Place
   pub other : calls.Work
   pub at : IsAtWork k machine state left there work other
+
+-- where the work throws, the state is as it was
+abbrev pub StaysAtThrow : Work → MachineState → MachineState → Type 0
+StaysAtThrow (Throws x) old new = new ≡ old
+StaysAtThrow work old new = Unit {0}
 
 -- Whatever state of the machine it was, the step is what the machine makes of the work.
 abbrev pub Finishes : Known → MachineState → MachineState → Step → Bool → Work → Type 0

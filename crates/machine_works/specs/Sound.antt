@@ -1,6 +1,7 @@
 -- What all work of the library is like.
-use Rattle.std.specs.Prelude.{◌≡◌, ◌&&◌, ℕ, Bool, true, false, if◌then◌else◌, nat_le, List, [], ◌∷◌, ◌++◌, codes, length, take, drop, ◌-◌, slice_get, Option, Some, None, ℤ, pos, negsuc, refl}
+use Rattle.std.specs.Prelude.{◌≡◌, ◌&&◌, ℕ, Bool, true, false, if◌then◌else◌, nat_le, List, [], ◌∷◌, ◌++◌, codes, length, take, drop, ◌-◌, slice_get, is_some, Option, Some, None, ℤ, pos, negsuc, refl}
 use Rattle.std.proofs.Common.{◌∙◌}
+use Rattle.class_file.specs.Pool.{Reference}
 use Rattle.boot_library.specs.declared.rule.LibraryRule.{LibraryRule}
 use Rattle.boot_library.specs.declared.rule.LibraryRule.TheVariants as rule
 use Rattle.boot_library.specs.declared.rule.Spelling.{Spelling}
@@ -13,11 +14,23 @@ use Rattle.class_machine.specs.Turn as turns
 use Rattle.class_machine.specs.Values.{Name, class_of, throwable_class, Held, Int, Long, Float, Double, Null, Reference as Pointer, held_reference}
 use Rattle.class_machine.specs.Values as machine
 use Rattle.class_machine.specs.Numbers.{decimal}
-use Rattle.class_machine.specs.Descriptors.{low_bits}
+use Rattle.class_machine.specs.Descriptors.{element, low_bits, narrowed}
 use Rattle.class_machine.specs.declared.kinds.Element.{Element}
 use Rattle.class_machine.specs.declared.kinds.Fault.{Fault}
-use Rattle.class_machine.specs.World.{World, Text, units_at, read_field, set_object, message_field, cause_field, write_field, add_text}
+use Rattle.class_machine.specs.World.{World, Object, Text, units_at, object_at, read_field, set_object, message_field, cause_field, value_field, box_class, written, write_field, add_text, make}
 use Rattle.machine_works.specs.Finishing.{IsSound}
+
+-- a write to a field leaves the answers
+write_answers : (w : World) (a : Name) (r : Reference) (v : Held) → (write_field w a r v).answers ≡ w.answers
+write_answers w a r v = by (object_at w a) where
+  by : (o : Option Object) → (written w a r v o).answers ≡ w.answers
+  by None = refl
+  by (Some object) = refl
+
+-- what comes of a buffer with that text
+abbrev appended_to : List ℕ → Name → World → Option (List ℕ) → Work
+appended_to units buffer w None = Misuses
+appended_to units buffer w (Some old) = calls.gives (Pointer buffer) (set_object w buffer (Text (old ++ units)))
 
 module _ (cs : Classes) where
   either : (w : World) (b : Bool) (one other : Work) → IsSound cs w one → IsSound cs w other → IsSound cs w (if b then one else other)
@@ -50,15 +63,21 @@ module _ (cs : Classes) where
 
   -- ---- texts
 
+  appended : (units : List ℕ) (buffer : Name) (w : World) → IsSound cs w (calls.appended units buffer w)
+  appended units buffer w = by (units_at w buffer) where
+    by : (o : Option (List ℕ)) → IsSound cs w (appended_to units buffer w o)
+    by None = tt
+    by (Some old) = refl
+
   finish_units : (wait : Wait) (units : List ℕ) (w : World) → IsSound cs w (calls.finish_units wait units w)
   finish_units (Prints line) units w = refl
-  finish_units (Appends buffer) units w = refl
+  finish_units (Appends buffer) units w = appended units buffer w
   finish_units Gives units w = refl
   finish_units (Describes x rest) units w = tt
 
   finish_text : (wait : Wait) (a : Option Name) (units : Option (List ℕ)) (w : World) → IsSound cs w (calls.finish_text wait a units w)
   finish_text (Prints line) a units w = refl
-  finish_text (Appends buffer) a units w = refl
+  finish_text (Appends buffer) a units w = appended (calls.text_or_null units) buffer w
   finish_text Gives a units w = refl
   finish_text (Describes x rest) a units w =
       let made = add_text w (calls.described x units) in
@@ -201,7 +220,9 @@ module _ (cs : Classes) where
   class_name w (machine.Literal text) = tt
 
   not_found : (w : World) (name : Held) → IsSound cs w (calls.not_found cs w name)
-  not_found w name = (refl, refl)
+  not_found w name =
+      let made = make cs w (codes "java/lang/ClassNotFoundException") in
+      (write_answers made.1 made.0 message_field name, refl)
 
   for_known : (w : World) (name : Held) (class : List ℕ) (b : Bool) → cs.knows class ≡ b → IsSound cs w (if b then Loads class else calls.not_found cs w name)
   for_known w name class true e = e
@@ -227,10 +248,14 @@ module _ (cs : Classes) where
   substring w units (negsuc begin) (pos end) = tt
   substring w units (negsuc begin) (negsuc end) = tt
 
+  both_written : (w : World) (x : Name) (text cause : Held) → (write_field (write_field w x message_field text) x cause_field cause).answers ≡ w.answers
+  both_written w x text cause = write_answers (write_field w x message_field text) x cause_field cause ∙ write_answers w x message_field text
+
   set_cause : (w : World) (x : Name) (text cause : Held) → IsSound cs w (calls.set_cause cs w x text cause)
   set_cause w x text (Pointer cause) =
-      either w (cs.is_subtype (class_of cause) throwable_class) (calls.does (write_field (write_field w x message_field text) x cause_field (Pointer cause))) Misuses refl tt
-  set_cause w x text Null = refl
+      either w (cs.is_subtype (class_of cause) throwable_class) (calls.does (write_field (write_field w x message_field text) x cause_field (Pointer cause))) Misuses
+      (both_written w x text (Pointer cause)) tt
+  set_cause w x text Null = both_written w x text Null
   set_cause w x text (Int n) = tt
   set_cause w x text (Long n) = tt
   set_cause w x text (Float n) = tt
@@ -294,10 +319,12 @@ module _ (cs : Classes) where
   with_argument w rule.Substring a v = tt
   with_argument w rule.Itself a v = tt
   with_argument w (rule.ValueOf x) a v = tt
-  with_argument w rule.FillBuffer a v = text_argument w v (λ text. calls.unless_null_text text (λ units. calls.does (set_object w a (Text units)))) (λ text. unless_null w text (λ units. calls.does (set_object w a (Text units))) (λ units. refl))
+  with_argument w rule.FillBuffer a v =
+      text_argument w v (λ text. calls.unless_null_text text (λ units. calls.filled units a w)) (λ text.
+      unless_null w text (λ units. calls.filled units a w) (λ units. either w (is_some (units_at w a)) (calls.does (set_object w a (Text units))) Misuses refl tt))
   with_argument w (rule.Append x) a v = spelled w x v (Appends a)
   with_argument w rule.Copy a v = tt
-  with_argument w rule.SetMessage a v = text_argument w v (λ text. calls.does (write_field w a message_field v)) (λ text. refl)
+  with_argument w rule.SetMessage a v = text_argument w v (λ text. calls.does (write_field w a message_field v)) (λ text. write_answers w a message_field v)
   with_argument w rule.SetMessageAndCause a v = tt
   with_argument w rule.Message a v = tt
   with_argument w rule.Cause a v = tt
@@ -306,7 +333,7 @@ module _ (cs : Classes) where
   with_argument w rule.HashOf a v = tt
   with_argument w (rule.Print how line) a v = spelled w how v (Prints line)
   with_argument w rule.PrintLine a v = tt
-  with_argument w (rule.SetBox x) a v = refl
+  with_argument w (rule.SetBox x) a v = write_answers w a (value_field x) (narrowed (element x) v)
   with_argument w (rule.BoxOf x) a v = tt
   with_argument w (rule.Unbox x) a v = tt
   with_argument w (rule.SameBox x) a v = refl
@@ -416,7 +443,9 @@ module _ (cs : Classes) where
   by_static_rule w rule.PrintLine given = tt
   by_static_rule w (rule.SetBox x) given = tt
   by_static_rule w (rule.BoxOf x) [] = tt
-  by_static_rule w (rule.BoxOf x) (v ∷ []) = refl
+  by_static_rule w (rule.BoxOf x) (v ∷ []) =
+      let made = make cs w (box_class x) in
+      write_answers made.1 made.0 (value_field x) (narrowed (element x) v)
   by_static_rule w (rule.BoxOf x) (v ∷ u ∷ given) = tt
   by_static_rule w (rule.Unbox x) given = tt
   by_static_rule w (rule.SameBox x) given = tt

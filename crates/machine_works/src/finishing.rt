@@ -11,7 +11,7 @@ ghost use Rattle.machine_steps.specs.Runs.{IsMethod, IsFormed};
 ghost use Rattle.machine_invocations.specs.Keeping.{Keeps};
 ghost use Rattle.machine_invocations.specs.Methods.{Sees};
 ghost use Rattle.machine_invocations.specs.Returning.{IsSettledResult};
-ghost use Rattle.machine_works.specs.Finishing.{ends_call, calls_within, MovesToClass, StandsAtWork, Finishes};
+ghost use Rattle.machine_works.specs.Finishing.{ends_call, calls_within, MovesToClass, StandsAtWork, StaysAtThrow, Finishes};
 
 use aj_names::{Base, FieldType, MethodId};
 use class_file::{NamedType, Reference};
@@ -22,8 +22,9 @@ use machine_steps::{Step, fail, raise, tell};
 use machine_values::{Ending, Event, MachineState, Purpose, Ref, Value, Wait};
 use std::alloc::AllocError;
 
-// On behind the call, with its event and its result if there are such.
-fn end_call(
+/// The running frame, which waits at its call of a library method, goes on behind the call, with its event
+/// and its result if there are such; `super_call` where that is a this or super call of a constructor.
+pub fn end_call(
     state: &mut MachineState,
     world: &World,
     super_call: bool,
@@ -117,7 +118,8 @@ fn load(state: &mut MachineState, world: &World, class: &FieldType) -> Result<St
 /// `super_call` where that is a this or super call of a constructor.
 ///
 /// # Errors
-/// Where there is no memory; the state stands for what it stood for then.
+/// Where there is no memory; the state stands for what it stood for then, and is as it was where the work
+/// throws.
 pub fn finish_work(
     state: &mut MachineState,
     world: &World,
@@ -130,6 +132,7 @@ pub fn finish_work(
     ensures formed { IsFormed world.now state.new }
     ensures moves { IfOk result (λ step. Finishes world.now state.old state.new step super_call work) }
     ensures err { OnErr result (Keeps world.now state.old state.new) }
+    ensures thrown { OnErr result (StaysAtThrow work state.old state.new) }
 {
     match work {
         Work::Results(said, value) => Ok(end_call(state, world, super_call, said, value)),

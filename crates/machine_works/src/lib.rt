@@ -6,4 +6,4 @@
 
 mod finishing;
 
-pub use finishing::finish_work;
+pub use finishing::{end_call, finish_work};

@@ -1,8 +1,9 @@
 use Rattle.std.proofs.Common.{sym, subst}
-use Rattle.std.proofs.lemmas.Result.{IfOk-weaker}
-use Rattle.machine_works.specs.Finishing.{Finishes}
+use Rattle.std.proofs.lemmas.Result.{IfOk-weaker, on_err_weaker}
+use Rattle.machine_rules.specs.declared.work.Work.{Work}
+use Rattle.machine_works.specs.Finishing.{Finishes, StaysAtThrow}
 use Rattle.machine_works.proofs.Finished.{thrown_there, called_there, finishes_results, finishes_throws, finishes_calls, finishes_loads}
-use Rattle.machine_works.proofs.Kept.{on_equal}
+use Rattle.machine_works.proofs.Kept.{on_equal, on_any}
 use Rattle.machine_works.proofs.finishing.finish_work.Goals as goal
 
 pub raise-requires-clause-class : goal.raise-requires-clause-class
@@ -42,3 +43,15 @@ returns-in-Loads-clause-moves c =
     let old = c.args.state.now in
     IfOk-weaker c.load.result _ _
     (λ step moves. subst (Finishes k old c.load.new.state step c.args.super_call) (sym c.in-Loads.is) (finishes_loads k old c.load.new.state step c.args.super_call c.in-Loads.class moves)) c.load.ensures.moves
+
+pub returns-in-Throws-clause-thrown : goal.returns-in-Throws-clause-thrown
+returns-in-Throws-clause-thrown c = on_err_weaker c.raise.result (λ same. subst (λ (w : Work). StaysAtThrow w c.args.state.now c.raise.new.state) (sym c.in-Throws.is) same) c.raise.ensures.err
+
+pub returns-in-Faults-clause-thrown : goal.returns-in-Faults-clause-thrown
+returns-in-Faults-clause-thrown c = on_any c.fail.result (subst (λ (w : Work). StaysAtThrow w c.args.state.now c.fail.new.state) (sym c.in-Faults.is) tt)
+
+pub returns-in-Calls-clause-thrown : goal.returns-in-Calls-clause-thrown
+returns-in-Calls-clause-thrown c = on_any c.call_within.result (subst (λ (w : Work). StaysAtThrow w c.args.state.now c.call_within.new.state) (sym c.in-Calls.is) tt)
+
+pub returns-in-Loads-clause-thrown : goal.returns-in-Loads-clause-thrown
+returns-in-Loads-clause-thrown c = on_any c.load.result (subst (λ (w : Work). StaysAtThrow w c.args.state.now c.load.new.state) (sym c.in-Loads.is) tt)
