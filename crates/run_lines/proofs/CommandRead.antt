@@ -13,13 +13,13 @@ use Rattle.run_lines.specs.EntryWord.{IsEntryWord}
 use Rattle.run_lines.specs.CommandWords.{is_plain, RunCommand, IsRunOf, SayRun, AreRunWords}
 use Rattle.run_lines.specs.Reading.{Finds}
 
-run_is : (a b : RunCommand) → a.input ≡ b.input → a.entry ≡ b.entry → a.steps ≡ b.steps → a.script ≡ b.script → a ≡ b
-run_is a b p q r s = λ i. record { input = p i; entry = q i; steps = r i; script = s i }
+run_is : (a b : RunCommand) → a.input ≡ b.input → a.word ≡ b.word → a.entry ≡ b.entry → a.steps ≡ b.steps → a.script ≡ b.script → a ≡ b
+run_is a b p w q r s = λ i. record { input = p i; word = w i; entry = q i; steps = r i; script = s i }
 
 -- of the words that are read there is one run
-pub one_run : (run : RunCommand) (entry steps : Text) → ((e : EntryWords) → IsEntryWord e entry → e ≡ run.entry) → ((n : ℕ) → IsSteps n steps → n ≡ run.steps)
-    → (y : RunCommand) → IsRunOf y run.input entry steps run.script → y ≡ run
-one_run run entry steps entries numbers y is = run_is y run is.folder (entries y.entry is.is_entry) (numbers y.steps is.are_steps) is.file
+pub one_run : (run : RunCommand) (steps : Text) → ((e : EntryWords) → IsEntryWord e run.word → e ≡ run.entry) → ((n : ℕ) → IsSteps n steps → n ≡ run.steps)
+    → (y : RunCommand) → IsRunOf y run.input run.word steps run.script → y ≡ run
+one_run run steps entries numbers y is = run_is y run is.folder is.same_word (entries y.entry is.is_entry) (numbers y.steps is.are_steps) is.file
 
 -- the same form, said in another way
 pub finds_same : {X Y : Type 0} (view : X → Y) (R S : Y → Type 0) → ((y : Y) → R y → S y) → ((y : Y) → S y → R y) → (o : Option X) → Finds view R o → Finds view S o
@@ -54,6 +54,7 @@ moved : (run : RunCommand) (input entry steps input' entry' steps' : Text) (scri
     → IsRunOf run input entry steps script → IsRunOf run input' entry' steps' script'
 moved run input entry steps input' entry' steps' script script' p q r s is = record {
   folder = is.folder ∙ p;
+  same_word = is.same_word ∙ q;
   is_entry = subst (IsEntryWord run.entry) q is.is_entry;
   are_steps = subst (IsSteps run.steps) r is.are_steps;
   file = is.file ∙ s;

@@ -11,9 +11,11 @@ abbrev pub is_plain : Text → Bool
 is_plain [] = false
 is_plain (b ∷ text) = not (b == 45)
 
--- the folder to read, where to begin, how many steps to take, and the file of the script, if one is named
+-- the folder to read, the entry as it is written and what it says, how many steps to take, and the file of the script, if one is
+-- named
 pub record RunCommand : Type 0 where
   pub input : Text
+  pub word : Text
   pub entry : EntryWords
   pub steps : ℕ
   pub script : Option Text
@@ -21,6 +23,7 @@ pub record RunCommand : Type 0 where
 -- the words behind the command's name say so
 pub record IsRunOf (run : RunCommand) (input entry steps : Text) (script : Option Text) : Type 0 where
   pub folder : run.input ≡ input
+  pub same_word : run.word ≡ entry
   pub is_entry : IsEntryWord run.entry entry
   pub are_steps : IsSteps run.steps steps
   pub file : run.script ≡ script

@@ -16,6 +16,8 @@ use std::alloc::{AllocError, Global};
 pub struct RunWords<'a> {
     /// The folder whose classes are run.
     pub input: &'a str,
+    /// The entry, as it is written.
+    pub word: &'a str,
     /// Where the run begins.
     pub entry: EntryWords,
     /// How many steps it takes at most.
@@ -41,20 +43,21 @@ fn are_plain(words: &[String]) -> bool
 fn run_words<'a>(
     alloc: Global,
     input: &'a str,
-    entry: &str,
+    word: &'a str,
     steps: &str,
     script: Option<&'a str>,
 ) -> Result<Option<RunWords<'a>>, AllocError>
-    ensures { IfOk result (λ found. Finds {Y = RunCommand} (λ run. record { input = run.input.now; entry = run.entry; steps = run.steps; script = option_map (λ name. name.now) run.script }) (λ run. IsRunOf run input.now entry.now steps.now (option_map (λ name. name.now) script.entry)) found) }
+    ensures { IfOk result (λ found. Finds {Y = RunCommand} (λ run. record { input = run.input.now; word = run.word.now; entry = run.entry; steps = run.steps; script = option_map (λ name. name.now) run.script }) (λ run. IsRunOf run input.now word.now steps.now (option_map (λ name. name.now) script.entry)) found) }
 {
     let Some(steps) = read_steps(steps.as_bytes()) else {
         return Ok(None);
     };
-    let Some(entry) = read_entry(alloc, entry.as_bytes())? else {
+    let Some(entry) = read_entry(alloc, word.as_bytes())? else {
         return Ok(None);
     };
     Ok(Some(RunWords {
         input,
+        word,
         entry,
         steps,
         script,
@@ -68,7 +71,7 @@ fn run_words<'a>(
 /// # Errors
 /// Where there is no memory.
 pub fn read_run(alloc: Global, words: &[String]) -> Result<Option<RunWords<'_>>, AllocError>
-    ensures { IfOk result (λ found. Finds {Y = RunCommand} (λ run. record { input = run.input.now; entry = run.entry; steps = run.steps; script = option_map (λ name. name.now) run.script }) (λ run. AreRunWords (map string_bytes words.now) run) found) }
+    ensures { IfOk result (λ found. Finds {Y = RunCommand} (λ run. record { input = run.input.now; word = run.word.now; entry = run.entry; steps = run.steps; script = option_map (λ name. name.now) run.script }) (λ run. AreRunWords (map string_bytes words.now) run) found) }
 {
     if !are_plain(words) {
         return Ok(None);

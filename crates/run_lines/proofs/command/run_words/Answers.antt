@@ -18,14 +18,15 @@ returns-in_default-2 c =
 pub returns : goal.returns
 returns c =
     let some = subst (λ (o : Option EntryWords). Finds (λ (e : EntryWords). e) (λ (e : EntryWords). IsEntryWord e c.as_bytes-2.result.now) o) c.in-Some-2.is c.in_ok-entry.ensures in
-    let run : RunCommand = record { input = c.args.input.now; entry = c.in-Some-2.entry; steps = c.in-Some.steps; script = option_map {U = Text} (λ (name : Bor (List ℕ)). name.now) c.args.script } in
+    let run : RunCommand = record { input = c.args.input.now; word = c.args.word.now; entry = c.in-Some-2.entry; steps = c.in-Some.steps; script = option_map {U = Text} (λ (name : Bor (List ℕ)). name.now) c.args.script } in
     let entry = c.as_bytes-2.ensures.value in
     let steps = c.as_bytes.ensures.value in (
       record {
         folder = refl;
+        same_word = refl;
         is_entry = subst (IsEntryWord run.entry) entry some.0;
         are_steps = subst (IsSteps run.steps) steps c.in-Some.ensures.0;
         file = refl;
       },
-      one_run run c.args.entry.now c.args.steps.now (λ e is. some.1 e (subst (IsEntryWord e) (sym entry) is)) (λ n is. c.in-Some.ensures.1 n (subst (IsSteps n) (sym steps) is)),
+      one_run run c.args.steps.now (λ e is. some.1 e (subst (IsEntryWord e) (sym entry) is)) (λ n is. c.in-Some.ensures.1 n (subst (IsSteps n) (sym steps) is)),
     )
