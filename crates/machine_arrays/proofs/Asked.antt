@@ -1,11 +1,9 @@
 -- What the machine makes of an instruction that asks for arrays of arrays.
-use Rattle.std.specs.Prelude.{◌≡◌, ℕ, ◌+◌, ◌⊎◌, Bool, true, false, if◌then◌else◌, is_some, List, [], ◌∷◌, ◌++◌, map, reverse, take, length, nat_le, ℤ, Some, refl}
+use Rattle.std.specs.Prelude.{◌≡◌, ℕ, ◌⊎◌, Bool, true, false, if◌then◌else◌, is_some, List, [], ◌∷◌, ◌++◌, map, reverse, take, length, ℤ, Some, refl}
 use Rattle.std.specs.List.{list_any}
 use Rattle.std.proofs.Common.{sym, ◌∙◌, ap, subst, inl, inr}
-use Rattle.std.proofs.lemmas.Bool.{le-leb}
 use Rattle.aj_names.specs.declared.types.FieldType.{FieldType}
 use Rattle.class_file.specs.Code.{has_dimensions}
-use Rattle.class_heads.specs.declared.types.ClassHead.{ClassHead}
 use Rattle.class_world.specs.Tables.{Known}
 use Rattle.class_machine.specs.declared.kinds.Fault.{Fault}
 use Rattle.class_machine.specs.Answers as answers
@@ -27,11 +25,8 @@ use Rattle.machine_values.specs.declared.names.Name.{Name}
 use Rattle.machine_values.specs.declared.observed.Ending.TheVariants.{Broken, Unresolved}
 use Rattle.machine_values.specs.declared.state.MachineState.{MachineState}
 use Rattle.machine_values.specs.declared.values.Ref.{Ref}
-use Rattle.machine_values.specs.declared.values.Value.{Value}
 use Rattle.machine_values.specs.declared.values.Value.TheVariants as value
-use Rattle.machine_values.specs.Stacks as stacks
 use Rattle.machine_values.specs.Standing.{name_of}
-use Rattle.machine_values.specs.States.{value_in}
 use Rattle.machine_values.specs.Types.{type_name}
 use Rattle.machine_requests.specs.Replies.{IsLonger}
 use Rattle.machine_requests.specs.Shares.{Setting, others_of}
@@ -44,12 +39,12 @@ use Rattle.machine_steps.specs.Going.{moves_turned}
 use Rattle.machine_steps.specs.Moves.{Turning, Moves, MovesWithLocals, faults}
 use Rattle.machine_steps.specs.Programs.{Machine, IsMachine, IsRunnable}
 use Rattle.machine_steps.specs.Raised.{grown_runs}
-use Rattle.machine_steps.specs.Running.{seen_by, waiting, frames_are, moves_at}
+use Rattle.machine_steps.specs.Running.{seen_by, waiting, moves_at}
 use Rattle.machine_steps.specs.Runs.{IsFormed, Stepped}
 use Rattle.machine_invocations.specs.Returning.{takes_back}
 use Rattle.machine_arrays.specs.Made.{IsMade, Makes, KeepsFilled}
 use Rattle.machine_arrays.specs.Named.{knows}
-use Rattle.machine_arrays.specs.Stepping.{HasRoom, LacksSizes, TakesSizes, asks, gives, makes_arrays}
+use Rattle.machine_arrays.specs.Stepping.{LacksSizes, TakesSizes, asks, makes_arrays}
 use Rattle.machine_arrays.proofs.Fieldless.{bare_arrays}
 use Rattle.machine_arrays.proofs.Taken.{last_or_none, taken_turned}
 use Rattle.machine_arrays.proofs.Worlds.{same_answers}
@@ -98,8 +93,15 @@ stays_same m due f below place c w v u = by (is_some ((class_code m.files).line 
   by true = refl
   by false = refl
 
+given_same : (m : Machine) (due : machines.Due) (f : turns.Frame Place) (below : List (turns.Frame Place)) (room : Bool) (place : Place) (c : Content Place) (w v u : World)
+    → moved (class_code m.files) m.setting.classes due (if room then stays (class_code m.files) m.setting.classes place c w else stops events.Broken) v f below
+    ≡ moved (class_code m.files) m.setting.classes due (if room then stays (class_code m.files) m.setting.classes place c w else stops events.Broken) u f below
+given_same m due f below true place c w v u = stays_same m due f below place c w v u
+given_same m due f below false place c w v u = refl
+
 pub given : (k : Known) (old mid new : MachineState) (step : Step) (type : FieldType) (named : List ℕ) (sizes : List ℤ) (array : Ref) → IsRunnable k → knows k named ≡ true → list_any is_negative sizes ≡ false → type_name type ≡ named
-    → mid ≡ record old { heap = mid.heap } → IsLonger old.heap mid.heap → Makes old.heap mid.heap type sizes array → ((s : Setting) → KeepsFilled old.heap mid.heap s) → Moves k mid new step (gives mid array) → Moves k old new step (asks named sizes)
+    → mid ≡ record old { heap = mid.heap } → IsLonger old.heap mid.heap → Makes old.heap mid.heap type sizes array → ((s : Setting) → KeepsFilled old.heap mid.heap s) → Moves k mid new step (takes_back false (Some (value.Reference array)) mid)
+    → Moves k old new step (asks named sizes)
 given k old mid new step type named sizes array runnable known sign is_named same longer makes filled moves m left t f below is runs frames =
     let w = t.world in
     let made = make_arrays named sizes w in
@@ -110,52 +112,18 @@ given k old mid new step type named sizes array runnable known sign is_named sam
     let there = (class_code m.files).next f.place in
     let h = machine.Reference (name_of m.setting.heads mid.heap.names array) in
     subst (Stepped m new left step) (
-    stays_same m t.due f below there (pushed_on (Plain h) f.content) made.1 made.1 w
-    ∙ ap (λ (v : Held). moved (class_code m.files) m.setting.classes t.due (stays (class_code m.files) m.setting.classes there (pushed_on (Plain v) f.content) made.1) w f below) is_made.value
+    given_same m t.due f below (has_room f.room (held_width h) f.content.operands) there (pushed_on (Plain h) f.content) made.1 made.1 w
+    ∙ ap (λ (v : Held). to_step m t f below (replied (class_code m.files) m.setting.classes f f.content w (answers.Gives v made.1))) is_made.value
     ∙ ap (to_step m t f below) (sym (known_turn m t f below k is named sizes false known sign))
     ) (moves m left (record t { world = made.1 }) f below is grown frames)
 
--- ---- the frame takes the array
-
-weights : (heads : List ClassHead) (m : Machine) (names : List Name) (method : ℕ) (vs : List Value) → machine.weight (map (value_in heads m.methods names method) vs) ≡ stacks.weight vs
-weights heads m names method [] = refl
-weights heads m names method (v ∷ vs) = let one = width_of v in let rest = weights heads m names method vs in cc where
-  width_of : (v : Value) → machine.width (value_in heads m.methods names method v) ≡ stacks.width v
-  width_of (value.Int n) = refl
-  width_of (value.Long n) = refl
-  width_of (value.Float n) = refl
-  width_of (value.Double n) = refl
-  width_of value.Null = refl
-  width_of (value.Reference a) = refl
-  width_of (value.Token class number) = refl
-  width_of (value.ReturnAddress pc) = refl
+-- ---- the whole instruction
 
 no_frame : (k : Known) (old new : MachineState) (step : Step) (turning : Turning) → old.frames.items ≡ [] → Moves k old new step turning
 no_frame k old new step turning none m left t f below is runs same =
     absurd (impossible (sym same ∙ runs.frames.frames ∙ ap (λ (fs : List Frame). map (seen_by m old.heap.names) (reverse fs)) none)) where
       impossible : f ∷ below ≡ [] → ⊥
       impossible e = cc
-
-taken_top : (k : Known) (old new : MachineState) (step : Step) (array : Ref) (rest : List Frame) (g : Frame) → old.frames.items ≡ rest ++ g ∷ [] → HasRoom old
-    → Moves k old new step (takes_back false (Some (value.Reference array)) old) → Moves k old new step (gives old array)
-taken_top k old new step array rest g top roomy moves =
-    moves_at k old new step (gives old array) rest g top (λ m left t is runs.
-    let f = seen_by m old.heap.names g in
-    let below = waiting m old.heap.names rest in
-    let h = machine.Reference (name_of m.setting.heads old.heap.names array) in
-    let room : has_room f.room 1 f.content.operands ≡ true =
-    ap (λ (n : ℕ). nat_le (1 + n) g.operands.room) (weights m.setting.heads m old.heap.names g.method.0 g.operands.values) ∙ le-leb (1 + stacks.weight g.operands.values) g.operands.room (roomy.room rest g top) in
-    subst (λ (turn : Turn Place). Stepped m new left step (to_step m t f below turn))
-    (ap (λ (b : Bool). if b then stays (class_code m.files) m.setting.classes ((class_code m.files).next f.place) (pushed_on (Plain h) f.content) t.world else stops events.Broken) room)
-    (moves m left t f below is runs (frames_are m old left t rest g runs top)))
-
-pub taken : (k : Known) (old new : MachineState) (step : Step) (array : Ref) → HasRoom old → Moves k old new step (takes_back false (Some (value.Reference array)) old) → Moves k old new step (gives old array)
-taken k old new step array roomy moves = by (last_or_none old.frames.items) where
-  by : (old.frames.items ≡ []) ⊎ ((rest : List Frame) × (g : Frame) × (old.frames.items ≡ rest ++ g ∷ [])) → Moves k old new step (gives old array)
-  by (inl none) = no_frame k old new step (gives old array) none
-  by (inr (rest, g, top)) = taken_top k old new step array rest g top roomy moves
-
--- ---- the whole instruction
 
 lacking_top : (k : Known) (old new : MachineState) (named : List ℕ) (dims : ℕ) (rest : List Frame) (g : Frame) → old.frames.items ≡ rest ++ g ∷ [] → LacksSizes dims old → Moves k old new (Ended Broken) (makes_arrays true named dims)
 lacking_top k old new named dims rest g top lacks =
@@ -183,11 +151,17 @@ same_asked m due w f c below named sizes = by (m.setting.classes.knows named) wh
   staying true place d v = refl
   staying false place d v = refl
 
+  giving : (room b : Bool) (place : Place) (d : Content Place) (v : World)
+      → moved (class_code m.files) m.setting.classes due (if room then (if b then Stays place d v else stops events.Broken) else stops events.Broken) w (record f { content = c }) below
+      ≡ moved (class_code m.files) m.setting.classes due (if room then (if b then Stays place d v else stops events.Broken) else stops events.Broken) w f below
+  giving true b place d v = staying b place d v
+  giving false b place d v = refl
+
   answered : (bad : Bool) (made : Held × World)
       → moved (class_code m.files) m.setting.classes due (replied (class_code m.files) m.setting.classes (record f { content = c }) c w (if bad then answers.Faults Fault.NegativeArraySize else answers.Gives made.0 made.1)) w (record f { content = c }) below
       ≡ moved (class_code m.files) m.setting.classes due (replied (class_code m.files) m.setting.classes f c w (if bad then answers.Faults Fault.NegativeArraySize else answers.Gives made.0 made.1)) w f below
   answered true made = refl
-  answered false made = staying (is_some ((class_code m.files).line ((class_code m.files).next f.place))) ((class_code m.files).next f.place) (pushed_on (Plain made.0) c) made.1
+  answered false made = giving (has_room f.room (held_width made.0) c.operands) (is_some ((class_code m.files).line ((class_code m.files).next f.place))) ((class_code m.files).next f.place) (pushed_on (Plain made.0) c) made.1
 
   by : (known : Bool)
       → moved (class_code m.files) m.setting.classes due (linked (class_code m.files) m.setting.classes (record f { content = c }) w (Ask (MakeArray (Some named) named sizes) c) (or_free known (missing_class named))) w (record f { content = c }) below
@@ -225,6 +199,3 @@ unfit k old new named dims e m left t f below is runs top =
 
 pub grown_formed : (k : Known) (old mid : MachineState) → mid ≡ record old { heap = mid.heap } → IsFormed k old → IsFormed k mid
 grown_formed k old mid same formed = subst (IsFormed k) (sym same) (record { statics = formed.statics; begun = formed.begun; frames = formed.frames; due = formed.due })
-
-pub grown_room : (old mid : MachineState) → mid ≡ record old { heap = mid.heap } → HasRoom old → HasRoom mid
-grown_room old mid same room = subst HasRoom (sym same) (record { room = room.room })

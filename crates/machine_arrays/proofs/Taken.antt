@@ -1,10 +1,9 @@
 -- Sizes that were taken from the running frame, and are put back.
-use Rattle.std.specs.Prelude.{◌≡◌, ℕ, zero, suc, ◌+◌, ◌-◌, ◌<◌, ◌≤◌, ◌⊎◌, Bool, true, false, List, [], ◌∷◌, ◌++◌, map, reverse, take, length, slice_get, slice_set, ℤ, Some, refl}
+use Rattle.std.specs.Prelude.{◌≡◌, ℕ, zero, suc, ◌+◌, ◌-◌, ◌<◌, ◌⊎◌, List, [], ◌∷◌, ◌++◌, take, length, slice_get, slice_set, ℤ, Some, refl}
 use Rattle.std.specs.Vec.{with_item}
 use Rattle.std.specs.Global.{Vec}
 use Rattle.std.proofs.Common.{sym, ◌∙◌, ap, subst, inl, inr, arith}
 use Rattle.std.proofs.Math.Nat.{ℕ_set}
-use Rattle.std.proofs.lemmas.List.{length-map, length-reverse, reverse-append}
 use Rattle.class_world.specs.Tables.{Known}
 use Rattle.class_machine.specs.ClassFiles.{Place}
 use Rattle.class_machine.specs.Classes.{reference}
@@ -12,16 +11,13 @@ use Rattle.class_machine.specs.Effect as definition
 use Rattle.class_machine.specs.Values as machine
 use Rattle.machine_values.specs.declared.frames.Frame.{Frame}
 use Rattle.machine_values.specs.declared.state.MachineState.{MachineState}
-use Rattle.machine_values.specs.declared.values.Value.{Value}
-use Rattle.machine_values.specs.declared.values.Value.TheVariants.{Int}
-use Rattle.machine_values.specs.Stacks.{is_wide, slots_of, width, weight}
 use Rattle.machine_frames.specs.Naming.{Naming}
 use Rattle.machine_frames.specs.Effects.{operands_of, locals_of}
 use Rattle.machine_frames.specs.Sizes.{Sizes}
 use Rattle.machine_steps.specs.Going.{formed_turned}
-use Rattle.machine_steps.specs.Running.{first_same, Turned, turned_at}
+use Rattle.machine_steps.specs.Running.{Turned, turned_at}
 use Rattle.machine_steps.specs.Runs.{IsFormed}
-use Rattle.machine_arrays.specs.Stepping.{HasRoom, TakesSizes}
+use Rattle.machine_arrays.specs.Stepping.{TakesSizes}
 
 -- ---- a vector whose items are the same
 
@@ -52,9 +48,6 @@ set_there : {X : Type 0} (xs : List X) (i : ℕ) (x : X) → i < length xs → s
 set_there [] i x h = absurd (omega arith)
 set_there (y ∷ xs) zero x h = refl
 set_there (y ∷ xs) (suc i) x h = set_there xs i x (omega arith)
-
-last_item : {X : Type 0} (xs ys : List X) (x y : X) → xs ++ x ∷ [] ≡ ys ++ y ∷ [] → x ≡ y
-last_item xs ys x y e = first_same x y (reverse xs) (reverse ys) (sym (reverse-append xs (x ∷ [])) ∙ ap reverse e ∙ reverse-append ys (y ∷ []))
 
 pub last_or_none : {X : Type 0} (xs : List X) → (xs ≡ []) ⊎ ((rest : List X) × (x : X) × (xs ≡ rest ++ x ∷ []))
 last_or_none [] = inl refl
@@ -101,21 +94,6 @@ pub many_sizes : (dims : ℕ) (f g : Frame) (xs : List ℤ) → Sizes dims f xs 
 many_sizes dims f g xs sizes =
     let m = sizes_many (locals_of no_names f) dims [] (operands_of no_names f) [] xs _ (sizes no_names (Some []) []) in omega arith
 
--- ---- room
-
-weight_some : (vs us : List Value) → 0 < length vs → 1 + weight us ≤ weight (vs ++ us)
-weight_some [] us h = absurd (omega arith)
-weight_some (v ∷ vs) us h = let one = width_some v in let rest = weight_more vs us in omega arith where
-  width_some : (v : Value) → 1 ≤ width v
-  width_some v = by (is_wide v) where
-    by : (wide : Bool) → 1 ≤ slots_of wide
-    by true = omega arith
-    by false = omega arith
-
-  weight_more : (vs us : List Value) → weight us ≤ weight (vs ++ us)
-  weight_more [] us = omega arith
-  weight_more (v ∷ vs) us = let rest = weight_more vs us in omega arith
-
 -- ---- of the state
 
 module _ (dims : ℕ) (old : MachineState) (xs : List ℤ) (new : MachineState) (h : TakesSizes dims old xs new) where
@@ -127,20 +105,6 @@ module _ (dims : ℕ) (old : MachineState) (xs : List ℤ) (new : MachineState) 
 
   pub taken_many : length xs ≡ dims
   taken_many = many_sizes dims h.before h.after xs h.sizes
-
-  pub taken_room : 0 < dims → HasRoom new
-  taken_room some = record {
-    room = λ rest f top.
-        let same : f ≡ h.after = last_item rest below f h.after (sym top ∙ taken_turned.after) in
-        let many = taken_many in
-        let taken = reverse (map Int xs) in
-        let count : length taken ≡ length xs = length-reverse (map Int xs) ∙ length-map xs Int in
-        let fits = h.taken.taken.fits (omega arith) in
-        let more = weight_some taken h.after.operands.values (omega arith) in
-        let all = ap weight h.taken.taken.values in
-        let room = h.taken.taken.room in
-        subst (λ (g : Frame). 1 + weight g.operands.values ≤ g.operands.room) (sym same) (omega arith);
-  }
 
   pub taken_formed : (k : Known) → IsFormed k old → IsFormed k new
   taken_formed k formed = formed_turned k old new below h.before h.after taken_turned (ap (λ (f : Frame). f.method) h.taken.rest) formed

@@ -1,27 +1,18 @@
 -- The turn of an instruction that makes arrays of arrays, once the sizes were taken.
-use Rattle.std.specs.Prelude.{◌≡◌, ℕ, ◌+◌, ◌≤◌, Bool, if◌then◌else◌, List, [], ◌∷◌, ◌++◌, map, reverse, length, slice_get, ℤ, Some}
+use Rattle.std.specs.Prelude.{◌≡◌, ℕ, ◌+◌, Bool, if◌then◌else◌, List, [], ◌∷◌, ◌++◌, map, reverse, length, slice_get, ℤ, Some}
 use Rattle.std.specs.Vec.{with_item}
-use Rattle.class_machine.specs.Answers as answers
 use Rattle.class_machine.specs.ClassFiles.{class_code}
 use Rattle.class_machine.specs.Effect.{Ask, Broken, MakeArray, new_array}
-use Rattle.class_machine.specs.Turn.{resolved, replied}
-use Rattle.class_machine.specs.Values as machine
+use Rattle.class_machine.specs.Turn.{resolved}
 use Rattle.machine_frames.specs.Sizes.{Sizes, SizesBreak}
 use Rattle.machine_frames.specs.Undoing.{IsTaken}
 use Rattle.machine_steps.specs.Moves.{Turning}
 use Rattle.machine_values.specs.declared.frames.Frame.{Frame}
 use Rattle.machine_values.specs.declared.state.MachineState.{MachineState}
-use Rattle.machine_values.specs.declared.values.Ref.{Ref}
 use Rattle.machine_values.specs.declared.values.Value.TheVariants.{Int}
-use Rattle.machine_values.specs.Stacks.{weight}
-use Rattle.machine_values.specs.Standing.{name_of}
 use Rattle.machine_values.specs.States.{IsFrameWithin}
 
 -- ---- the running frame
-
--- it has room for a reference
-pub record HasRoom (state : MachineState) : Type 0 where
-  pub room : (rest : List Frame) (f : Frame) → state.frames.items ≡ rest ++ f ∷ [] → 1 + weight f.operands.values ≤ f.operands.room
 
 -- so many sizes aren't on its operands
 abbrev pub LacksSizes : ℕ → MachineState → Type 0
@@ -48,7 +39,3 @@ makes_arrays fit named dims m t f = resolved (class_code m.files) m.setting.clas
 -- arrays of the array type are asked for
 abbrev pub asks : List ℕ → List ℤ → Turning
 asks named sizes m t f = resolved (class_code m.files) m.setting.classes f t.world (Ask (MakeArray (Some named) named sizes) f.content)
-
--- the array is given
-abbrev pub gives : MachineState → Ref → Turning
-gives state array m t f = replied (class_code m.files) m.setting.classes f f.content t.world (answers.Gives (machine.Reference (name_of m.setting.heads state.heap.names array)) t.world)

@@ -13,7 +13,7 @@ ghost use Rattle.machine_steps.specs.Executing.{executes};
 ghost use Rattle.machine_steps.specs.Moves.{Moves};
 ghost use Rattle.machine_steps.specs.Programs.{IsRunnable};
 ghost use Rattle.machine_steps.specs.Runs.{IsFormed};
-ghost use Rattle.machine_arrays.specs.Stepping.{HasRoom, TakesSizes, LacksSizes, asks, gives};
+ghost use Rattle.machine_arrays.specs.Stepping.{TakesSizes, LacksSizes, asks};
 
 use crate::making::make_arrays;
 use crate::named::{array_named, has_dimensions};
@@ -23,7 +23,7 @@ use class_world::World;
 use machine_frames::{pop_sizes, put_sizes_back};
 use machine_invocations::take_back;
 use machine_steps::{Step, fail};
-use machine_values::{Ending, MachineState, Ref, Value};
+use machine_values::{Ending, MachineState, Value};
 use std::alloc::{AllocError, Global};
 
 // The name with dots for its slashes.
@@ -62,18 +62,6 @@ fn give_back(state: &mut MachineState, sizes: &[i32])
     put_sizes_back(&mut state.frames[top], sizes);
 }
 
-// The running frame goes on behind the instruction, with the array on top.
-fn give_array(state: &mut MachineState, world: &World, array: Ref) -> Step
-    requires runnable { IsRunnable world.now }
-    requires formed { IsFormed world.now state.old }
-    requires known { array.0 < length state.old.heap.names }
-    requires room { HasRoom state.old }
-    ensures formed { IsFormed world.now state.new }
-    ensures moves { Moves world.now state.old state.new result (gives state.old array) }
-{
-    take_back(state, world, false, Some(Value::Reference(array)))
-}
-
 // Makes the arrays of the type, where the sizes were taken from the running frame.
 fn new_arrays(
     state: &mut MachineState,
@@ -86,7 +74,6 @@ fn new_arrays(
     requires array { is_array named.now ≡ true }
     requires some { 0 < length sizes.now }
     requires deep { length sizes.now ≤ dimensions named.now }
-    requires room { HasRoom state.old }
     ensures formed { IsFormed world.now state.new }
     ensures moves { IfOk result (λ step. Moves world.now state.old state.new step (asks named.now sizes.now)) }
     ensures err { OnErr result (state.new ≡ state.old) }
@@ -100,7 +87,8 @@ fn new_arrays(
         return fail(state, world, Fault::NegativeArraySize);
     }
     let array = make_arrays(&mut state.heap, &class, sizes)?;
-    Ok(give_array(state, world, array))
+    let value = Value::Reference(array);
+    Ok(take_back(state, world, false, Some(value)))
 }
 
 /// Makes an array of the array type that a Class entry names, and in it arrays of so many dimensions in

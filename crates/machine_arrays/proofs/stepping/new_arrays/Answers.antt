@@ -10,7 +10,7 @@ pub returns-clause-moves : goal.returns-clause-moves
 returns-clause-moves c =
     let old : MachineState = c.args.state.now in
     let mid : MachineState = record old { heap = c.make_arrays.new.heap } in
-    given c.args.world.now old mid c.give_array.new.state c.give_array.result c.in-Some.class c.args.named.now c.args.sizes.now c.in_ok-array.array c.requires.runnable
+    given c.args.world.now old mid c.take_back.new.state c.take_back.result c.in-Some.class c.args.named.now c.args.sizes.now c.in_ok-array.array c.requires.runnable
     (sym c.in_ok-class.ensures.known ∙ ap is_some c.in-Some.is) (sym c.has_negative.ensures ∙ c.if-has_negative.false)
     (subst (λ (o : Option FieldType). IfSome o (λ class. type_name class ≡ c.args.named.now)) c.in-Some.is c.in_ok-class.ensures.named)
-    refl c.make_arrays.ensures.names c.in_ok-array.ensures.made c.in_ok-array.ensures.filled c.give_array.ensures.moves
+    refl c.make_arrays.ensures.names c.in_ok-array.ensures.made c.in_ok-array.ensures.filled c.take_back.ensures.taken

@@ -7,7 +7,7 @@ use Rattle.machine_steps.specs.Moves.{Moves}
 use Rattle.machine_arrays.specs.Stepping.{LacksSizes, TakesSizes, asks}
 use Rattle.machine_arrays.proofs.Asked.{fitting, unfit, lacking, executed}
 use Rattle.machine_arrays.proofs.Descriptors.{dims_some, dims_few}
-use Rattle.machine_arrays.proofs.Taken.{taken_many, taken_room}
+use Rattle.machine_arrays.proofs.Taken.{taken_many}
 use Rattle.machine_arrays.proofs.stepping.step_new_arrays.Goals as goal
 
 pub returns-then-not-has_dimensions-clause-moves : goal.returns-then-not-has_dimensions-clause-moves
@@ -43,14 +43,6 @@ new_arrays-requires-clause-deep c =
     let few = dims_few c.args.dims c.args.named.now (sym c.has_dimensions.ensures ∙ c.if-not-has_dimensions.false) in
     let same : length c.as_slice.result.now ≡ length c.in-Some.sizes.items = ap length c.as_slice.ensures.value in
     omega arith
-
-pub new_arrays-requires-clause-room : goal.new_arrays-requires-clause-room
-new_arrays-requires-clause-room c =
-    let old = c.args.state.now in
-    let mid = c.take_sizes.new.state in
-    taken_room c.args.dims old c.in-Some.sizes.items mid
-    (subst (λ (o : Option (Vec ℤ)). MatchOption o (LacksSizes c.args.dims old) (λ xs. TakesSizes c.args.dims old xs.items mid)) c.in-Some.is c.in_ok-sizes.ensures.taken)
-    (dims_some c.args.dims c.args.named.now (sym c.has_dimensions.ensures ∙ c.if-not-has_dimensions.false))
 
 pub returns-in-Ok-clause-moves : goal.returns-in-Ok-clause-moves
 returns-in-Ok-clause-moves c =
