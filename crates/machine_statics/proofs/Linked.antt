@@ -17,7 +17,7 @@ use Rattle.class_machine.specs.Effect.{Effect, Ask, Announce, is_broken}
 use Rattle.class_machine.specs.Events as events
 use Rattle.class_machine.specs.Operations.{FieldAccess, New}
 use Rattle.class_machine.specs.Turn.{Frame, Turn, Stays, Refused, Needs, Link, stops, stays, replied, taken, link, static_field}
-use Rattle.class_machine.specs.Values.{Held, Plain, Token, ReturnAddress, Value, Content, content, has_room, is_held, kind_width, width, fresh}
+use Rattle.class_machine.specs.Values.{Held, Plain, Token, ReturnAddress, Value, Content, content, has_room, is_held, kind_width, width, held_width, pushed_on, fresh}
 use Rattle.class_machine.specs.World.{World}
 use Rattle.machine_steps.specs.Programs.{Machine, IsMachine}
 use Rattle.machine_invocations.specs.Methods.{classes_in}
@@ -78,7 +78,7 @@ module _ (m : Machine) (f : Frame Place) where
     quiet_stays place c u = quiet_if (is_some ((class_code m.files).line place)) (Stays place c u) (stops events.Broken) refl refl
 
     quiet_reply : (c : Content Place) (reply : answers.Reply) → is_quiet (replied (class_code m.files) m.setting.classes f c w reply) ≡ true
-    quiet_reply c (answers.Gives v u) = quiet_stays _ _ u
+    quiet_reply c (answers.Gives v u) = quiet_if (has_room f.room (held_width v) c.operands) (stays (class_code m.files) m.setting.classes ((class_code m.files).next f.place) (pushed_on (Plain v) c) u) (stops events.Broken) (quiet_stays _ _ u) refl
     quiet_reply c (answers.Done u) = quiet_stays _ _ u
     quiet_reply c (answers.Faults fault) = refl
     quiet_reply c answers.Refuses = refl

@@ -76,6 +76,10 @@ same_both : {X : Type 0} (b : Bool) (x : X) → (if b then x else x) ≡ x
 same_both true x = refl
 same_both false x = refl
 
+same_twice : {X : Type 0} (b : Bool) (x y : X) → (if b then (if b then x else y) else y) ≡ (if b then x else y)
+same_twice true x y = refl
+same_twice false x y = refl
+
 -- what is asked of the statics of a state
 abbrev pub Answers : MachineState → ℕ → Element → Value → Reply → Type 0
 Answers old number e initial reply =
@@ -122,7 +126,11 @@ module _ (k : Known) (old : MachineState) (r : Reference) (number : ℕ) (e : El
   given_same : (v : Value) (b : Bool) → is_held (kind_in type) value ≡ b → Replies m.setting old.heap (others_of old) t.world (Gives v) (if_held b)
       → takes_back false (Some v) old m t f ≡ takes (FieldAccess access.GetStatic r) m t f
   given_same v true holds given =
-      ap (λ h. pushed (held_width h) h) given.0 ∙ ap (λ n. pushed n value) (widths holds) ∙ sym (taken_if roomy ∙ ap (after roomy) holds)
+      let there = stays (class_code m.files) m.setting.classes next (pushed_on (Plain value) f.content) t.world in
+      ap (λ h. pushed (held_width h) h) given.0
+      ∙ sym (same_twice (has_room f.room (held_width value) f.content.operands) there (stops events.Broken))
+      ∙ ap (λ n. if has_room f.room n f.content.operands then pushed (held_width value) value else stops events.Broken) (widths holds)
+      ∙ sym (taken_if roomy ∙ ap (after roomy) holds)
   given_same v false holds given = absurd given
 
   -- a value that was given is that of the machine
