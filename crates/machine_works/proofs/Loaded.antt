@@ -36,11 +36,12 @@ use Rattle.machine_steps.specs.declared.step.Step.TheVariants.{Went}
 use Rattle.machine_steps.specs.Moves.{Moves}
 use Rattle.machine_steps.specs.Programs.{IsRunnable, Machine, IsMachine}
 use Rattle.machine_steps.specs.Runs.{Runs, Stepped}
-use Rattle.machine_invocations.specs.Initialising.{Begins, begun_state, has_frame}
+use Rattle.machine_invocations.specs.Initialising.{AddsFrames, Begins, begun_state, has_frame}
 use Rattle.machine_invocations.specs.Keeping.{Keeps, keeps_runs}
 use Rattle.machine_invocations.specs.Returning.{takes_back}
 use Rattle.machine_invocations.proofs.Fieldless.{class_fields, with_class_object}
 use Rattle.machine_invocations.proofs.Locked.{distinct_in}
+use Rattle.machine_works.specs.Finishing.{MovesToClass, ComesFirst, BeginsClass}
 use Rattle.machine_works.proofs.Ended.{ending, anywhere, ending_quiet, ends_silent}
 
 -- ---- the name of a class
@@ -147,21 +148,37 @@ module _ (k : Known) (old : MachineState) (type : FieldType) (heap : Things) (at
           else loads (class_code m.files) m.setting.classes f f.content t.world class (pending (class_code m.files) m.setting.classes t.world class))
       begun_gives mid2 same is shares begins top moves = flat_turn (begun_at mid2 same is shares (pending (class_code m.files) m.setting.classes t.world class) refl begins.pushed begins.runs top moves)
 
-  -- the initialisers come first
-  module _ (new : MachineState) (m : Machine) (left : List Answer) (t : State Place) (f : turns.Frame Place) (below : List (turns.Frame Place)) (none : is_array (type_name type) ≡ false) where
-    began_at : (p : List (turns.Frame Place)) → pending (class_code m.files) m.setting.classes t.world (type_name type) ≡ p → has_frame p ≡ true → Runs m new left (begun_state m t (type_name type)) → t.frames ≡ f ∷ below
-        → Stepped m new left Went (moved (class_code m.files) m.setting.classes t.due (loads (class_code m.files) m.setting.classes f f.content t.world (type_name type) p) t.world f below)
-    began_at [] e some runs top = absurd cc
-    began_at (g ∷ gs) e some runs top =
-        subst (λ (xs : List (turns.Frame Place)). Runs m new left (record t { frames = xs; world = begin m.setting.classes t.world (type_name type) }))
-        (ap (λ (xs : List (turns.Frame Place)). xs ++ t.frames) e ∙ ap (λ (xs : List (turns.Frame Place)). (g ∷ gs) ++ xs) top) runs
+-- ---- the initialisers come first
 
-    pub began_first : Begins m new left t (type_name type) true → t.frames ≡ f ∷ below
-        → Stepped m new left Went (moved (class_code m.files) m.setting.classes t.due
-        (if is_array (type_name type) then gives_class (class_code m.files) m.setting.classes f f.content t.world (type_name type)
-        else loads (class_code m.files) m.setting.classes f f.content t.world (type_name type) (pending (class_code m.files) m.setting.classes t.world (type_name type))) t.world f below)
-    began_first begins top =
-        subst (λ (b : Bool). Stepped m new left Went (moved (class_code m.files) m.setting.classes t.due
-        (if b then gives_class (class_code m.files) m.setting.classes f f.content t.world (type_name type)
-        else loads (class_code m.files) m.setting.classes f f.content t.world (type_name type) (pending (class_code m.files) m.setting.classes t.world (type_name type))) t.world f below))
-        (sym none) (began_at (pending (class_code m.files) m.setting.classes t.world (type_name type)) refl begins.pushed begins.runs top)
+module _ (type : FieldType) (new : MachineState) (m : Machine) (left : List Answer) (t : State Place) (f : turns.Frame Place) (below : List (turns.Frame Place)) (none : is_array (type_name type) ≡ false) where
+  began_at : (p : List (turns.Frame Place)) → pending (class_code m.files) m.setting.classes t.world (type_name type) ≡ p → has_frame p ≡ true → Runs m new left (begun_state m t (type_name type)) → t.frames ≡ f ∷ below
+      → Stepped m new left Went (moved (class_code m.files) m.setting.classes t.due (loads (class_code m.files) m.setting.classes f f.content t.world (type_name type) p) t.world f below)
+  began_at [] e some runs top = absurd cc
+  began_at (g ∷ gs) e some runs top =
+      subst (λ (xs : List (turns.Frame Place)). Runs m new left (record t { frames = xs; world = begin m.setting.classes t.world (type_name type) }))
+      (ap (λ (xs : List (turns.Frame Place)). xs ++ t.frames) e ∙ ap (λ (xs : List (turns.Frame Place)). (g ∷ gs) ++ xs) top) runs
+
+  began_first : Begins m new left t (type_name type) true → t.frames ≡ f ∷ below
+      → Stepped m new left Went (moved (class_code m.files) m.setting.classes t.due
+      (if is_array (type_name type) then gives_class (class_code m.files) m.setting.classes f f.content t.world (type_name type)
+      else loads (class_code m.files) m.setting.classes f f.content t.world (type_name type) (pending (class_code m.files) m.setting.classes t.world (type_name type))) t.world f below)
+  began_first begins top =
+      subst (λ (b : Bool). Stepped m new left Went (moved (class_code m.files) m.setting.classes t.due
+      (if b then gives_class (class_code m.files) m.setting.classes f f.content t.world (type_name type)
+      else loads (class_code m.files) m.setting.classes f f.content t.world (type_name type) (pending (class_code m.files) m.setting.classes t.world (type_name type))) t.world f below))
+      (sym none) (began_at (pending (class_code m.files) m.setting.classes t.world (type_name type)) refl begins.pushed begins.runs top)
+
+-- whatever state of the machine it was, that is its step
+pub began_moves : (k : Known) (old new : MachineState) (type : FieldType) → BeginsClass k old new type → MovesToClass k old new Went type
+began_moves k old new type begins m left t f below is runs top knows = let first = begins.there m left t is runs in began_first type new m left t f below first.flat first.begins top
+
+-- the frames of initialisers stand on top, once the object that stands for the class is there
+pub begins_class : (k : Known) (old new : MachineState) (type : FieldType) (heap : Things) → IsLonger old.heap heap → AddsFrames (record old { heap = heap }) new true → ((m : Machine) (left : List Answer) (t : State Place) → IsMachine k m → Runs m old left t → ComesFirst m new left t (type_name type))
+    → BeginsClass k old new type
+begins_class k old new type heap longer adds there = record {
+  own = adds.own;
+  frames = adds.frames;
+  same = adds.same ∙ ap (λ (h : Things). record old { frames = new.frames; begun = new.begun; heap = h }) (sym (ap (λ (s : MachineState). s.heap) adds.same));
+  names = subst (IsLonger old.heap) (sym (ap (λ (s : MachineState). s.heap) adds.same)) longer;
+  there = there;
+}

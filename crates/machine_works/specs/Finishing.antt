@@ -1,5 +1,5 @@
 -- What becomes of a frame whose call of the library has come to its work.
-use Rattle.std.specs.Prelude.{◌≡◌, Bool, true, if◌then◌else◌, List, ◌∷◌, codes, map, Option}
+use Rattle.std.specs.Prelude.{◌≡◌, ℕ, Bool, true, false, if◌then◌else◌, List, ◌∷◌, ◌++◌, codes, map, Option}
 use Rattle.std.specs.Option.{option_map}
 use Rattle.aj_names.specs.declared.types.FieldType.{FieldType}
 use Rattle.class_heads.specs.Hierarchy.{is_array}
@@ -11,6 +11,7 @@ use Rattle.class_machine.specs.Machine.{State, moved}
 use Rattle.class_machine.specs.Turn.{Frame, given_back, completes, enter_within, gives_class, loads, pending, worked}
 use Rattle.class_machine.specs.Values.{class_of}
 use Rattle.class_machine.specs.World.{World}
+use Rattle.machine_values.specs.declared.frames.Frame as kept
 use Rattle.machine_values.specs.declared.frames.Wait.{Wait}
 use Rattle.machine_values.specs.declared.observed.Event.{Event}
 use Rattle.machine_values.specs.declared.script.Answer.{Answer}
@@ -22,6 +23,7 @@ use Rattle.machine_values.specs.Standing.{name_of}
 use Rattle.machine_values.specs.States.{machine_wait}
 use Rattle.machine_values.specs.Types.{type_name}
 use Rattle.machine_requests.specs.Objects.{AreFilled}
+use Rattle.machine_requests.specs.Replies.{IsLonger}
 use Rattle.machine_requests.specs.Shares.{HasFrames, others_of}
 use Rattle.machine_rules.specs.declared.work.Work.{Work}
 use Rattle.machine_rules.specs.declared.work.Work.TheVariants.{Throws}
@@ -30,7 +32,10 @@ use Rattle.machine_steps.specs.declared.step.Step.{Step}
 use Rattle.machine_steps.specs.Moves.{Turning, moved_by}
 use Rattle.machine_steps.specs.Programs.{Machine, IsMachine}
 use Rattle.machine_steps.specs.Runs.{Runs, Stepped}
+use Rattle.machine_invocations.specs.Initialising.{has_frame, Begins}
 use Rattle.machine_invocations.specs.Returning.{result_held}
+use Rattle.machine_works.specs.declared.finishing.Loading.{Loading}
+use Rattle.machine_works.specs.declared.finishing.Loading.TheVariants as loaded
 
 -- ---- turns
 
@@ -56,6 +61,32 @@ abbrev pub MovesToClass : Known → MachineState → MachineState → Step → F
 MovesToClass k old new step type =
     (m : Machine) (left : List Answer) (t : State Place) (f : Frame Place) (below : List (Frame Place)) → IsMachine k m → Runs m old left t → t.frames ≡ f ∷ below
     → m.setting.classes.knows (type_name type) ≡ true → Stepped m new left step (moved_by (loads_class type) m t f below)
+
+-- whether initialisers of the class come first
+abbrev pub comes_first : FieldType → Machine → World → Bool
+comes_first type m w = if is_array (type_name type) then false else has_frame (pending (class_code m.files) m.setting.classes w (type_name type))
+
+-- none does, and the step is that
+pub record GoesToClass (k : Known) (old new : MachineState) (step : Step) (type : FieldType) : Type 0 where
+  pub moves : MovesToClass k old new step type
+  pub none : (m : Machine) (left : List Answer) (t : State Place) → IsMachine k m → Runs m old left t → m.setting.classes.knows (type_name type) ≡ true → comes_first type m t.world ≡ false
+
+-- some initialisers were pending
+pub record ComesFirst (m : Machine) (new : MachineState) (left : List Answer) (t : State Place) (class : List ℕ) : Type 0 where
+  pub flat : is_array class ≡ false
+  pub begins : Begins m new left t class true
+
+-- their frames were put on top
+pub record BeginsClass (k : Known) (old new : MachineState) (type : FieldType) : Type 0 where
+  pub own : List kept.Frame
+  pub frames : new.frames.items ≡ old.frames.items ++ own
+  pub same : new ≡ record old { frames = new.frames; begun = new.begun; heap = new.heap }
+  pub names : IsLonger old.heap new.heap
+  pub there : (m : Machine) (left : List Answer) (t : State Place) → IsMachine k m → Runs m old left t → ComesFirst m new left t (type_name type)
+
+abbrev pub LoadsClass : Known → MachineState → MachineState → FieldType → Loading → Type 0
+LoadsClass k old new type loaded.Begins = BeginsClass k old new type
+LoadsClass k old new type (loaded.Goes step) = GoesToClass k old new step type
 
 -- ---- work
 

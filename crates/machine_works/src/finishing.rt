@@ -11,7 +11,7 @@ ghost use Rattle.machine_steps.specs.Runs.{IsMethod, IsFormed};
 ghost use Rattle.machine_invocations.specs.Keeping.{Keeps};
 ghost use Rattle.machine_invocations.specs.Methods.{Sees};
 ghost use Rattle.machine_invocations.specs.Returning.{IsSettledResult};
-ghost use Rattle.machine_works.specs.Finishing.{ends_call, calls_within, MovesToClass, StandsAtWork, StaysAtThrow, Finishes};
+ghost use Rattle.machine_works.specs.Finishing.{ends_call, calls_within, LoadsClass, MovesToClass, StandsAtWork, StaysAtThrow, Finishes};
 
 use aj_names::{Base, FieldType, MethodId};
 use class_file::{NamedType, Reference};
@@ -21,6 +21,15 @@ use machine_rules::Work;
 use machine_steps::{Step, fail, raise, tell};
 use machine_values::{Ending, Event, MachineState, Purpose, Ref, Value, Wait};
 use std::alloc::AllocError;
+
+/// What a call that loads a class comes to.
+#[derive(Drop)]
+pub enum Loading {
+    /// The initialisers of the class come first: their frames stand on top.
+    Begins,
+    /// The running frame went on with the object that stands for the class.
+    Goes(Step),
+}
 
 /// The running frame, which waits at its call of a library method, goes on behind the call, with its event
 /// and its result if there are such; `super_call` where that is a this or super call of a constructor.
@@ -87,9 +96,48 @@ fn call_within(
     )
 }
 
-// The initialisers of the class that are pending come first, and the call is executed again; else on
-// with the object that stands for it. An array type initialises nothing.
-fn load(state: &mut MachineState, world: &World, class: &FieldType) -> Result<Step, AllocError>
+/// The initialisers of the class that are pending come first, and the call is to be executed again;
+/// else on with the object that stands for the class (JVMS 2.17.4). An array type initialises nothing.
+///
+/// # Errors
+/// Where there is no memory; the state stands for what it stood for then.
+pub fn load(
+    state: &mut MachineState,
+    world: &World,
+    class: &FieldType,
+) -> Result<Loading, AllocError>
+    requires runnable { IsRunnable world.now }
+    requires formed { IsFormed world.now state.old }
+    requires class { is_class_type class.now ≡ true }
+    ensures formed { IsFormed world.now state.new }
+    ensures loads { IfOk result (λ loaded. LoadsClass world.now state.old state.new class.now loaded) }
+    ensures err { OnErr result (Keeps world.now state.old state.new) }
+{
+    let at = state.heap.class_object(class)?;
+    let object = Value::Reference(at);
+    if class.dims > 0 {
+        let step = take_back(state, world, false, Some(object));
+        return Ok(Loading::Goes(step));
+    }
+    let Base::Class(name) = &class.base else {
+        return Ok(Loading::Goes(Step::Ended(Ending::Broken)));
+    };
+    let Some(place) = world.class(name) else {
+        return Ok(Loading::Goes(Step::Ended(Ending::Broken)));
+    };
+    if begin(state, world, place)? {
+        return Ok(Loading::Begins);
+    }
+    let step = take_back(state, world, false, Some(object));
+    Ok(Loading::Goes(step))
+}
+
+// To the initialisers of the class that are pending, or on with the object that stands for it.
+fn load_class(
+    state: &mut MachineState,
+    world: &World,
+    class: &FieldType,
+) -> Result<Step, AllocError>
     requires runnable { IsRunnable world.now }
     requires formed { IsFormed world.now state.old }
     requires class { is_class_type class.now ≡ true }
@@ -97,21 +145,10 @@ fn load(state: &mut MachineState, world: &World, class: &FieldType) -> Result<St
     ensures moves { IfOk result (λ step. MovesToClass world.now state.old state.new step class.now) }
     ensures err { OnErr result (Keeps world.now state.old state.new) }
 {
-    let at = state.heap.class_object(class)?;
-    let object = Value::Reference(at);
-    if class.dims > 0 {
-        return Ok(take_back(state, world, false, Some(object)));
+    match load(state, world, class)? {
+        Loading::Begins => Ok(Step::Went),
+        Loading::Goes(step) => Ok(step),
     }
-    let Base::Class(name) = &class.base else {
-        return Ok(Step::Ended(Ending::Broken));
-    };
-    let Some(place) = world.class(name) else {
-        return Ok(Step::Ended(Ending::Broken));
-    };
-    if begin(state, world, place)? {
-        return Ok(Step::Went);
-    }
-    Ok(take_back(state, world, false, Some(object)))
 }
 
 /// The running frame, which waits at its call of a library method, goes on by what came of the call;
@@ -143,7 +180,7 @@ pub fn finish_work(
             object,
             wait,
         } => call_within(state, world, method, object, wait),
-        Work::Loads(class) => load(state, world, &class),
+        Work::Loads(class) => load_class(state, world, &class),
         Work::Exits(status) => Ok(Step::Ended(Ending::Exit(status))),
         Work::Misuses => Ok(Step::Ended(Ending::Broken)),
     }

@@ -6,4 +6,4 @@
 
 mod finishing;
 
-pub use finishing::{end_call, finish_work};
+pub use finishing::{Loading, end_call, finish_work, load};

@@ -41,8 +41,8 @@ pub returns-in-Loads-clause-moves : goal.returns-in-Loads-clause-moves
 returns-in-Loads-clause-moves c =
     let k = c.args.world.now in
     let old = c.args.state.now in
-    IfOk-weaker c.load.result _ _
-    (λ step moves. subst (Finishes k old c.load.new.state step c.args.super_call) (sym c.in-Loads.is) (finishes_loads k old c.load.new.state step c.args.super_call c.in-Loads.class moves)) c.load.ensures.moves
+    IfOk-weaker c.load_class.result _ _ (λ step moves.
+    subst (Finishes k old c.load_class.new.state step c.args.super_call) (sym c.in-Loads.is) (finishes_loads k old c.load_class.new.state step c.args.super_call c.in-Loads.class moves)) c.load_class.ensures.moves
 
 pub returns-in-Throws-clause-thrown : goal.returns-in-Throws-clause-thrown
 returns-in-Throws-clause-thrown c = on_err_weaker c.raise.result (λ same. subst (λ (w : Work). StaysAtThrow w c.args.state.now c.raise.new.state) (sym c.in-Throws.is) same) c.raise.ensures.err
@@ -54,4 +54,4 @@ pub returns-in-Calls-clause-thrown : goal.returns-in-Calls-clause-thrown
 returns-in-Calls-clause-thrown c = on_any c.call_within.result (subst (λ (w : Work). StaysAtThrow w c.args.state.now c.call_within.new.state) (sym c.in-Calls.is) tt)
 
 pub returns-in-Loads-clause-thrown : goal.returns-in-Loads-clause-thrown
-returns-in-Loads-clause-thrown c = on_any c.load.result (subst (λ (w : Work). StaysAtThrow w c.args.state.now c.load.new.state) (sym c.in-Loads.is) tt)
+returns-in-Loads-clause-thrown c = on_any c.load_class.result (subst (λ (w : Work). StaysAtThrow w c.args.state.now c.load_class.new.state) (sym c.in-Loads.is) tt)
