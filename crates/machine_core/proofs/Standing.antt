@@ -27,7 +27,7 @@ use Rattle.machine_values.specs.declared.state.MachineState.{MachineState}
 use Rattle.machine_steps.specs.declared.step.Step.{Step}
 use Rattle.machine_steps.specs.declared.step.Step.TheVariants.{NotMine}
 use Rattle.machine_steps.specs.Executing.{executes}
-use Rattle.machine_steps.specs.Moves.{Moves, moved_by}
+use Rattle.machine_steps.specs.Moves.{Moves}
 use Rattle.machine_steps.specs.Parts.{Part, is_part, part_of_method, part_of_return, part_of_operation, part_of_line, part_of_frames, part_of, method_called, TakesOr, Takes}
 use Rattle.machine_steps.specs.Programs.{Machine, IsMachine}
 use Rattle.machine_steps.specs.Running.{HasRunningCode, seen_by, waiting, frames_are, first_same}

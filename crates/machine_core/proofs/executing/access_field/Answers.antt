@@ -7,7 +7,7 @@ use Rattle.machine_steps.specs.declared.step.Step.TheVariants.{NotMine}
 use Rattle.std.proofs.Common.{ap}
 use Rattle.machine_invocations.proofs.Begun.{on_err}
 use Rattle.machine_core.specs.Taking.{is_of_object}
-use Rattle.machine_core.proofs.Forms.{names_none, field_taken, field_left}
+use Rattle.machine_core.proofs.Forms.{names_none, field_taken}
 use Rattle.machine_core.proofs.executing.access_field.Goals as goal
 
 pub returns-in_default-clause-takes : goal.returns-in_default-clause-takes

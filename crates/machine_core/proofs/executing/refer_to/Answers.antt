@@ -1,5 +1,5 @@
 use Rattle.std.specs.Prelude.{ℕ, List, refl}
-use Rattle.std.proofs.Common.{ap, ◌∙◌, subst}
+use Rattle.std.proofs.Common.{◌∙◌, subst}
 use Rattle.std.proofs.lemmas.Result.{IfOk-weaker}
 use Rattle.class_file.specs.Pool.{string_at}
 use Rattle.class_machine.specs.Operations.{Refer}
