@@ -8,4 +8,14 @@ pub mod Taken
 pub mod Climbing
 pub mod Started
 pub mod SameTurn
+pub mod Restored
 pub mod StaticCalls
+pub mod OnCalls
+pub mod Receivers
+pub mod Unnamed
+pub mod Rising
+pub mod Bare
+pub mod NewObjects
+pub mod Tokens
+pub mod Readied
+pub mod Filling

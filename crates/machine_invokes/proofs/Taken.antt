@@ -20,7 +20,7 @@ use Rattle.machine_invokes.specs.Taking.{IsPutBack, Takes, TakesStatic, TakesOn,
 
 -- ---- the last of a list
 
-there_is : {A : Type 0} (xs : List A) (i : ℕ) → i < length xs → (x : A) × (slice_get xs i ≡ Some x)
+pub there_is : {A : Type 0} (xs : List A) (i : ℕ) → i < length xs → (x : A) × (slice_get xs i ≡ Some x)
 there_is xs i h = elim (slice_get_cases xs i).1 [
   | inl there ↦ (there.0, there.2)
   | inr gone ↦ absurd (let ge = gone.0 in omega arith)
@@ -42,7 +42,7 @@ at_middle : {A : Type 0} (below above : List A) (x : A) → slice_get (below ++ 
 at_middle [] above x = refl
 at_middle (y ∷ below) above x = at_middle below above x
 
-set_middle : {A : Type 0} (below above : List A) (x y : A) → slice_set (below ++ x ∷ above) (length below) y ≡ below ++ y ∷ above
+pub set_middle : {A : Type 0} (below above : List A) (x y : A) → slice_set (below ++ x ∷ above) (length below) y ≡ below ++ y ∷ above
 set_middle [] above x y = refl
 set_middle (z ∷ below) above x y = ap (λ xs. z ∷ xs) (set_middle below above x y)
 

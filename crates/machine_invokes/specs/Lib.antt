@@ -1,6 +1,8 @@
 pub mod Peeking
 pub mod Selecting
 pub mod Belonging
+pub mod Building
+pub mod Callees
 pub mod Choosing
 pub mod Beginning
 pub mod Taking

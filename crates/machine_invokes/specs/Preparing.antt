@@ -22,7 +22,7 @@ use Rattle.machine_values.specs.declared.state.MachineState.{MachineState}
 use Rattle.machine_values.specs.declared.values.Ref.{Ref}
 use Rattle.machine_values.specs.declared.values.Value.{Value}
 use Rattle.machine_values.specs.Standing.{name_of, held, Settled}
-use Rattle.machine_values.specs.States.{machine_purpose, is_known_object}
+use Rattle.machine_values.specs.States.{machine_purpose, is_known_object, is_known_purpose}
 use Rattle.machine_steps.specs.declared.step.Step.{Step}
 use Rattle.machine_steps.specs.Executing.{executes, MovesOver}
 use Rattle.machine_steps.specs.Moves.{Turning, Moves}
@@ -56,6 +56,7 @@ pub record Prepares (k : Known) (old new : MachineState) (mode : Mode) (r : Refe
   pub callee : Method
   pub sees : Sees k call.method.0 callee
   pub receiver : is_known_object (length new.heap.names) call.receiver ≡ true
+  pub purpose : is_known_purpose (length new.heap.names) call.purpose ≡ true
   pub arguments : AllByRecursion (Settled (length new.heap.names)) call.arguments.items
   -- where it has no frame, there is room for its result
   pub room : (m : Machine) (left : List Answer) (t : State Place) (f : Frame Place) (below : List (Frame Place)) → IsMachine k m → Runs m new left t → t.frames ≡ f ∷ below

@@ -1,11 +1,16 @@
 -- What an invocation took and changed.
-use Rattle.std.specs.Prelude.{◌≡◌, ◌++◌, Bool, List, [], ◌∷◌, reverse, Option, Some, None}
+use Rattle.std.specs.Prelude.{◌≡◌, ℕ, ◌++◌, Bool, List, [], ◌∷◌, reverse, Option, Some, None}
+use Rattle.aj_names.specs.declared.ids.ClassId.{ClassId}
 use Rattle.machine_values.specs.declared.state.MachineState.{MachineState}
-use Rattle.machine_frames.specs.declared.calls.Receiver.TheVariants.{Object}
+use Rattle.machine_values.specs.declared.values.Local.{Local}
+use Rattle.machine_values.specs.declared.values.Ref.{Ref}
+use Rattle.machine_values.specs.declared.values.Value.{Value}
+use Rattle.machine_frames.specs.declared.calls.Receiver.TheVariants.{Object, Announced}
 use Rattle.machine_frames.specs.Undoing.{receiver_value}
 use Rattle.machine_invokes.specs.declared.invocation.Before.{Before}
-use Rattle.machine_invokes.specs.declared.invocation.Before.TheVariants.{Arguments, Receiver}
+use Rattle.machine_invokes.specs.declared.invocation.Before.TheVariants.{Arguments, Receiver, Token}
 use Rattle.machine_invokes.specs.declared.invocation.Invocation.{Invocation}
+use Rattle.machine_invokes.specs.Building.{FillsToken}
 use Rattle.machine_invokes.specs.Taking.{Takes}
 
 -- which classes had begun, where others are marked now
@@ -19,10 +24,19 @@ pub record TookArguments (old new : MachineState) (call : Invocation) (saved : O
   pub takes : Takes old mid (reverse call.arguments.items)
   pub marked : AreSaved mid new saved
 
+-- the token and the arguments were taken, and then every copy of the token became a new object
+pub record TookToken (old new : MachineState) (call : Invocation) (class : ClassId) (number : ℕ) (operands : List Value) (locals : List Local) : Type 0 where
+  pub mid : MachineState
+  pub takes : Takes old mid (reverse call.arguments.items ++ receiver_value (Announced class number) ∷ [])
+  pub at : Ref
+  pub receiver : call.receiver ≡ Some at
+  pub fills : FillsToken number mid new at operands locals
+
 -- the state was the old one before the invocation
 abbrev pub UndoneBy : MachineState → MachineState → Invocation → Before → Type 0
 UndoneBy old new call (Arguments saved) = TookArguments old new call saved
 UndoneBy old new call Receiver = Takes old new (reverse call.arguments.items ++ receiver_value (Object call.receiver) ∷ [])
+UndoneBy old new call (Token class number operands locals) = TookToken old new call class number operands locals
 
 pub record CanUndo (old new : MachineState) (call : Invocation) : Type 0 where
   pub undone : UndoneBy old new call call.before

@@ -1,8 +1,8 @@
 //! Methods that are to run.
 
-use aj_names::{Items, MethodId};
+use aj_names::{ClassId, Items, MethodId};
 use machine_steps::Step;
-use machine_values::{Purpose, Ref, Value};
+use machine_values::{Local, Purpose, Ref, Value};
 
 /// What an invocation took and changed, so that it can be undone.
 #[derive(Drop)]
@@ -11,6 +11,9 @@ pub enum Before {
     Arguments(Option<Items<bool>>),
     /// The receiver and the arguments.
     Receiver,
+    /// The token of this class and number, and the arguments. Then each copy of the token became a new
+    /// object; what the frame held before, the last operand topmost.
+    Token(ClassId, u64, Items<Value>, Items<Local>),
 }
 
 /// A method that is to run on its receiver, if it has one, and with its arguments.
