@@ -19,3 +19,5 @@ pub mod NewObjects
 pub mod Tokens
 pub mod Readied
 pub mod Filling
+pub mod Undone
+pub mod Refilled

@@ -2,7 +2,7 @@
 use Rattle.std.specs.Prelude.{◌≡◌, ℕ, suc, ◌+◌, ◌-◌, ◌<◌, ◌≤◌, List, [], ◌∷◌, ◌++◌, reverse, take, map, length, slice_get, slice_set, Option, Some, None, refl}
 use Rattle.std.specs.Option.{option_map}
 use Rattle.std.proofs.Common.{inl, inr, sym, ◌∙◌, ap, subst, arith, length-append}
-use Rattle.std.proofs.lemmas.List.{map-append, take_more, take_all}
+use Rattle.std.proofs.lemmas.List.{map-append, take_more, take_all, length-set}
 use Rattle.std.proofs.lemmas.Option.{slice_get_cases, slice_get_within, get_or_from_slice_get}
 use Rattle.class_machine.specs.Descriptors.{kind_in}
 use Rattle.std.specs.Vec.{with_item}
@@ -38,7 +38,7 @@ none_stand (y ∷ xs) at =
 
 -- ---- in the middle of a list
 
-at_middle : {A : Type 0} (below above : List A) (x : A) → slice_get (below ++ x ∷ above) (length below) ≡ Some x
+pub at_middle : {A : Type 0} (below above : List A) (x : A) → slice_get (below ++ x ∷ above) (length below) ≡ Some x
 at_middle [] above x = refl
 at_middle (y ∷ below) above x = at_middle below above x
 
@@ -115,6 +115,7 @@ module _ (old : MachineState) (top : ℕ) (f p : Frame) (last : top + 1 ≡ leng
 pub puts_back : (old : MachineState) (index : ℕ) (vs : List Value) (h p : Frame) → slice_get old.frames.items index ≡ Some h → ((f : Frame) → IsTaken f vs h → p ≡ f) → PutsBack index vs old (record old { frames = with_item old.frames index p })
 puts_back old index vs h p at back = record {
   same = refl;
+  count = length-set old.frames.items index p;
   frames = λ below above f g len items taken.
       let is : h ≡ g = let e : Some h ≡ Some g = sym at ∙ ap (λ (xs : List Frame). slice_get xs index) items ∙ ap (slice_get (below ++ g ∷ above)) (sym len) ∙ at_middle below above g in cc in
       ap (λ (xs : List Frame). slice_set xs index p) items ∙ ap (λ (n : ℕ). slice_set (below ++ g ∷ above) n p) (sym len) ∙ set_middle below above g p

@@ -58,4 +58,5 @@ pub record TakeBreaks (kinds : List Kind) (old new : MachineState) : Type 0 wher
 -- Whatever frame the one of that number was, from which the values were taken, it is that one again; nothing else changes.
 pub record PutsBack (index : ℕ) (vs : List Value) (old new : MachineState) : Type 0 where
   pub same : new ≡ record old { frames = new.frames }
+  pub count : length new.frames.items ≡ length old.frames.items
   pub frames : (below above : List Frame) (f g : Frame) → length below ≡ index → old.frames.items ≡ below ++ g ∷ above → IsTaken f vs g → new.frames.items ≡ below ++ f ∷ above

@@ -1,10 +1,12 @@
 -- What an invocation took and changed.
-use Rattle.std.specs.Prelude.{◌≡◌, ℕ, ◌++◌, Bool, List, [], ◌∷◌, reverse, Option, Some, None}
+use Rattle.std.specs.Prelude.{◌≡◌, ℕ, suc, ◌≤◌, ◌++◌, Bool, List, [], ◌∷◌, reverse, length, Option, Some, None}
 use Rattle.aj_names.specs.declared.ids.ClassId.{ClassId}
+use Rattle.machine_values.specs.declared.frames.Frame.{Frame}
 use Rattle.machine_values.specs.declared.state.MachineState.{MachineState}
 use Rattle.machine_values.specs.declared.values.Local.{Local}
 use Rattle.machine_values.specs.declared.values.Ref.{Ref}
 use Rattle.machine_values.specs.declared.values.Value.{Value}
+use Rattle.machine_values.specs.Stacks.{weight}
 use Rattle.machine_frames.specs.declared.calls.Receiver.TheVariants.{Object, Announced}
 use Rattle.machine_frames.specs.Undoing.{receiver_value}
 use Rattle.machine_invokes.specs.declared.invocation.Before.{Before}
@@ -40,3 +42,25 @@ UndoneBy old new call (Token class number operands locals) = TookToken old new c
 
 pub record CanUndo (old new : MachineState) (call : Invocation) : Type 0 where
   pub undone : UndoneBy old new call call.before
+
+-- ---- back
+
+-- the frame held these operands and locals before others
+pub record IsRefilled (operands : List Value) (locals : List Local) (old new : Frame) : Type 0 where
+  pub rest : new ≡ record old { operands = new.operands; locals = new.locals }
+  pub room : new.operands.room ≡ old.operands.room
+  pub values : old.operands.values ≡ reverse operands
+  pub fits : weight old.operands.values ≤ old.operands.room
+  pub held : old.locals ≡ locals
+  pub count : length new.locals ≡ length old.locals
+
+-- Whatever frame the one of that number was, which held them, it is that one again; nothing else changes.
+pub record Refills (index : ℕ) (operands : List Value) (locals : List Local) (old new : MachineState) : Type 0 where
+  pub same : new ≡ record old { frames = new.frames }
+  pub count : length new.frames.items ≡ length old.frames.items
+  pub frames : (below above : List Frame) (f g : Frame) → length below ≡ index → old.frames.items ≡ below ++ g ∷ above → IsRefilled operands locals f g → new.frames.items ≡ below ++ f ∷ above
+
+-- the frame of that number is as it was before the invocation, whatever frames are above it now; nothing else changes
+pub record RestoresFrame (index : ℕ) (call : Invocation) (old new : MachineState) : Type 0 where
+  pub same : new ≡ record old { frames = new.frames }
+  pub frames : (before after : MachineState) (own : List Frame) → CanUndo before after call → old.frames.items ≡ after.frames.items ++ own → length after.frames.items ≡ suc index → new.frames.items ≡ before.frames.items ++ own

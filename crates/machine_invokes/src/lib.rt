@@ -14,6 +14,7 @@ mod preparing;
 mod selecting;
 mod starting;
 mod taking;
+mod undoing;
 
 pub use begun::have_begun;
 pub use belonging::is_library_call;
@@ -25,3 +26,4 @@ pub use starting::{Start, start_static};
 pub use taking::{
     are_settled, parameter_kinds, put_arguments_back, put_receiver_back, take_on, take_static,
 };
+pub use undoing::restore_frame;
