@@ -15,4 +15,4 @@ mod returning;
 pub use announcing::new_object;
 pub use getting::get_static;
 pub use putting::put_static;
-pub use returning::step_return;
+pub use returning::{leave_running, result_kind, result_of, show_result, step_return};

@@ -20,8 +20,8 @@ use machine_steps::{Step, leave};
 use machine_values::{Ending, Frame, Heap, MachineState, Purpose, Shown, Value};
 use std::alloc::AllocError;
 
-// The kind of what the method returns, unless it is void (JVMS 4.3.3).
-fn result_kind(world: &World, method: MethodId) -> Option<Kind>
+/// The kind of what the method returns, unless it is void (JVMS 4.3.3).
+pub fn result_kind(world: &World, method: MethodId) -> Option<Kind>
     requires { IsMethod world.now method.0 }
     ensures { TellsKind world.now method.0 result }
 {
@@ -42,9 +42,9 @@ fn value_on_top(frame: &Frame, kind: Kind) -> Option<Value>
     }
 }
 
-// What a return of the kind gives from a method whose result is of the other kind; none where the run
-// is Broken.
-fn result_of(frame: &Frame, kind: Option<Kind>, returns: Option<Kind>) -> Option<Option<Value>>
+/// What a return of the kind gives from a method whose result is of the other kind; none where the run
+/// is Broken.
+pub fn result_of(frame: &Frame, kind: Option<Kind>, returns: Option<Kind>) -> Option<Option<Value>>
     ensures { IsResult frame.now kind returns result }
 {
     match (kind, returns) {
@@ -70,8 +70,11 @@ fn is_settled_result(heap: &Heap, value: Option<Value>) -> bool
     }
 }
 
-// The result as the ending shows it.
-fn show_result(
+/// The result as the ending shows it.
+///
+/// # Errors
+/// Where there is no memory.
+pub fn show_result(
     state: &MachineState,
     world: &World,
     value: Option<Value>,
@@ -99,8 +102,8 @@ fn own(step: Step) -> Step
     }
 }
 
-// Takes the running frame off and leaves its monitor; says whether there was one.
-fn leave_running(state: &mut MachineState) -> bool
+/// Takes the running frame off and leaves its monitor; says whether there was one.
+pub fn leave_running(state: &mut MachineState) -> bool
     ensures left { MatchBool result (LeavesRunning state.old state.new) (state.old.frames.items ≡ []) }
     ensures formed { (k : Known) → IsFormed k state.old → IsFormed k state.new }
 {
