@@ -1,0 +1,5 @@
+pub mod Owned
+pub mod Turns
+pub mod AtWork
+pub mod Worked
+pub mod Refused
