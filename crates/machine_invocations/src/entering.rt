@@ -124,8 +124,8 @@ fn lock(
     Ok(Some(at))
 }
 
-// A frame of the method as it begins.
-fn call_frame(
+/// A frame of the method as it begins, but for its monitor.
+pub fn call_frame(
     alloc: Global,
     method: MethodId,
     entry: MethodEntry,
@@ -148,8 +148,11 @@ fn call_frame(
     })
 }
 
-// Puts the frame of a call of the method on top, and enters its monitor.
-fn push_call(
+/// Puts the frame of a call of the method on top, and enters its monitor.
+///
+/// # Errors
+/// Where there is no memory; the state stands for what it stood for then.
+pub fn push_call(
     state: &mut MachineState,
     world: &World,
     method: MethodId,

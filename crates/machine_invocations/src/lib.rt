@@ -14,7 +14,7 @@ mod selection;
 mod showing;
 mod texts;
 
-pub use entering::{enter, fits};
+pub use entering::{call_frame, enter, fits, push_call};
 pub use initialisers::begin;
 pub use leaving::drop_frame;
 pub use methods::{

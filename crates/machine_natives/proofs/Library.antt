@@ -145,3 +145,6 @@ text_fields k runnable name text = by (or_cases (bytes_eq name string_class) (by
   by : (bytes_eq name string_class ≡ true) ⊎ ((bytes_eq name buffer || bytes_eq name builder) ≡ true) → (classes_in k).fields name ≡ []
   by (inl same) = at string_class same (bare k runnable 3 string_class _ _ refl refl (lit< tt) refl refl refl refl refl refl refl refl (many_heads k runnable))
   by (inr rest) = other (or_cases (bytes_eq name buffer) (bytes_eq name builder) rest)
+
+pub stream_fields : (k : Known) → IsRunnable k → (classes_in k).fields print_stream_class ≡ []
+stream_fields k runnable = bare k runnable 7 print_stream_class _ _ refl refl (lit< tt) refl refl refl refl refl refl refl refl (many_heads k runnable)

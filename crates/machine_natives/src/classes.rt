@@ -14,7 +14,7 @@ use class_world::World;
 use std::alloc::{AllocError, Global};
 
 /// The class of Strings, which the library has.
-pub(crate) fn string_class(world: &World) -> ClassId
+pub fn string_class(world: &World) -> ClassId
     requires { IsRunnable world.now }
     ensures named { name_at world.now.heads result.0 ≡ string_class }
     ensures within { result.0 < length world.now.heads }

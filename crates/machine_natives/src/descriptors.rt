@@ -23,7 +23,7 @@ fn low_bits(element: Element, n: i32) -> i32
 }
 
 /// Whether the int is one of the type: in the type's range, and 0 or 1 for a boolean.
-pub(crate) fn is_int_of(element: Element, n: i32) -> bool
+pub fn is_int_of(element: Element, n: i32) -> bool
     ensures { result ≡ natives.is_int_of element n }
 {
     match element {
@@ -45,7 +45,7 @@ fn before_semicolon(text: &[u8]) -> &[u8]
 }
 
 /// The class or array type that the descriptor names; none where its type is primitive.
-pub(crate) fn class_in(descriptor: &[u8]) -> Option<&[u8]>
+pub fn class_in(descriptor: &[u8]) -> Option<&[u8]>
     ensures { option_copied result ≡ machine.class_in descriptor.now }
 {
     match descriptor {

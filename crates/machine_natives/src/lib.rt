@@ -14,7 +14,9 @@ mod response;
 mod throwing;
 
 pub use calling::{Called, call_native, end_script};
+pub use classes::string_class;
 pub use closing::close;
+pub use descriptors::{class_in, is_int_of};
 pub use responding::respond;
 pub use response::Response;
 pub use throwing::make_string;
