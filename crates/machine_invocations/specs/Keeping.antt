@@ -1,7 +1,8 @@
 -- What a refused call leaves of a state.
-use Rattle.std.specs.Prelude.{◌≡◌, ◌≤◌, List, length}
+use Rattle.std.specs.Prelude.{◌≡◌, ◌≤◌, List, [], length, refl}
 use Rattle.std.proofs.Common.{sym, ◌∙◌, ap, subst, arith, length-append}
 use Rattle.std.specs.List.{AllByRecursion}
+use Rattle.std.proofs.lemmas.List.{append-nil}
 use Rattle.class_world.specs.Tables.{Known}
 use Rattle.class_machine.specs.ClassFiles.{Place}
 use Rattle.class_machine.specs.Machine.{State}
@@ -55,3 +56,21 @@ keeps_runs k old new keeps m left t is runs =
       answers = runs.answers;
       filled = keeps.filled m t.world is runs.shares runs.filled;
     }
+
+-- the state is as it was; only the room for its frames may be another
+pub record IsSame (old new : MachineState) : Type 0 where
+  pub rest : new ≡ record old { frames = new.frames }
+  pub frames : new.frames.items ≡ old.frames.items
+
+pub same_keeps : (k : Known) (old new : MachineState) → IsSame old new → Keeps k old new
+same_keeps k old new same =
+    subst (λ (s : MachineState). s.frames.items ≡ old.frames.items → Keeps k old s) (sym same.rest)
+    (λ e. record {
+      frames = e;
+      due = refl;
+      statics = refl;
+      begun = refl;
+      names = ([], sym (append-nil old.heap.names));
+      shares = λ m w is shares. shares;
+      filled = λ m w is shares filled. filled;
+    }) same.frames
