@@ -9,3 +9,4 @@ pub mod Casts
 pub mod Reading
 pub mod Writing
 pub mod Fills
+pub mod Cut
