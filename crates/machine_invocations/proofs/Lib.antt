@@ -8,6 +8,7 @@ pub mod Marking
 pub mod Begun
 pub mod Filled
 pub mod Fieldless
+pub mod Forgotten
 pub mod Locked
 pub mod Entered
 pub mod Shown

@@ -1,5 +1,5 @@
 -- The frame of a call, and its monitor (JVMS 3.6, 3.11.11).
-use Rattle.std.specs.Prelude.{◌≡◌, ℕ, ◌+◌, ◌-◌, ◌++◌, true, false, if◌then◌else◌, List, [], ◌∷◌, map, replicate, length, slice_set, Option, Some, None}
+use Rattle.std.specs.Prelude.{◌≡◌, ℕ, ◌+◌, ◌-◌, ◌++◌, true, false, if◌then◌else◌, List, [], ◌∷◌, map, replicate, length, take, slice_set, Option, Some, None}
 use Rattle.std.specs.Option.{option_map}
 use Rattle.aj_names.specs.declared.ids.MethodId.{MethodId}
 use Rattle.class_file.specs.Pool.{Reference}
@@ -68,6 +68,11 @@ FindsLock k heap heap' callee receiver at =
 pub record LocksNothing (k : Known) (heap : Things) (monitors : List ℕ) (heap' : Things) (monitors' : List ℕ) : Type 0 where
   pub shares : (m : Machine) (others : Others) (w : World) → IsMachine k m → others.monitors ≡ monitors → Shares m.setting heap others w → Shares m.setting heap' (with_monitors others monitors') w
   pub filled : (m : Machine) (others : Others) (w : World) → IsMachine k m → Shares m.setting heap others w → AreFilled heap m.setting → AreFilled heap' m.setting
+
+-- objects may have been added, and those that were there are as they were
+pub record AddsOnly (before after : Things) : Type 0 where
+  pub names : take (length before.names) after.names ≡ before.names
+  pub contents : take (length before.contents) after.contents ≡ before.contents
 
 -- the frame of a call as it begins, but for its monitor
 abbrev pub beginning : MethodId → MethodEntry → List Value → Purpose → Frame

@@ -11,8 +11,8 @@ ghost use Rattle.machine_requests.specs.Replies.{IsLonger};
 ghost use Rattle.machine_steps.specs.Moves.{Moves};
 ghost use Rattle.machine_steps.specs.Programs.{IsRunnable};
 ghost use Rattle.machine_steps.specs.Runs.{IsMethod, IsFormed};
-ghost use Rattle.machine_invocations.specs.Entering.{beginning, filled_with, with_argument, FindsLock, Locks, LocksNothing, PushesCall, enters_with};
-ghost use Rattle.machine_invocations.specs.Keeping.{Keeps};
+ghost use Rattle.machine_invocations.specs.Entering.{beginning, filled_with, with_argument, AddsOnly, FindsLock, Locks, LocksNothing, PushesCall, enters_with};
+ghost use Rattle.machine_invocations.specs.Keeping.{Keeps, IsSame};
 ghost use Rattle.machine_invocations.specs.Methods.{Sees};
 
 use crate::methods::{declared, is_synchronized};
@@ -86,6 +86,7 @@ fn locked_object(
     ensures ok { IfOk result (λ at. (callee : Method) → Sees world.now method.0 callee → FindsLock world.now heap.old heap.new callee receiver at) }
     ensures within { IfOk result (λ at. at.0 < length heap.new.names) }
     ensures names { IsLonger heap.old heap.new }
+    ensures adds { AddsOnly heap.old heap.new }
     ensures err { OnErr result (heap.new ≡ heap.old) }
 {
     match receiver {
@@ -101,7 +102,7 @@ fn locked_object(
     }
 }
 
-// Enters the monitor of a call of the method, where it is synchronized.
+// Enters the monitor of a call of the method, where it is synchronized. A call that fails changes nothing.
 fn lock(
     heap: &mut Heap,
     monitors: &mut Items<u64>,
@@ -115,13 +116,21 @@ fn lock(
     ensures ok { IfOk result (λ monitor. (callee : Method) → Sees world.now method.0 callee → Locks world.now heap.old monitors.old heap.new monitors.new callee receiver monitor) }
     ensures names { IsLonger heap.old heap.new }
     ensures err { OnErr result (LocksNothing world.now heap.old monitors.old heap.new monitors.new) }
+    ensures heap { OnErr result (heap.new ≡ heap.old) }
+    ensures monitors { OnErr result (monitors.new ≡ monitors.old) }
 {
     if !is_synchronized(world, method) {
         return Ok(None);
     }
+    let count = heap.count();
     let at = locked_object(heap, world, method, receiver)?;
-    let _entered = enter_monitor(monitors, Some(at))?;
-    Ok(Some(at))
+    match enter_monitor(monitors, Some(at)) {
+        Ok(_entered) => Ok(Some(at)),
+        Err(failed) => {
+            heap.truncate(count);
+            Err(failed)
+        }
+    }
 }
 
 /// A frame of the method as it begins, but for its monitor.
@@ -164,6 +173,7 @@ pub fn push_call(
     requires receiver { is_known_object (length state.old.heap.names) receiver ≡ true }
     ensures ok { OnOk result ((callee : Method) → Sees world.now method.0 callee → PushesCall world.now state.old state.new callee receiver frame) }
     ensures err { OnErr result (Keeps world.now state.old state.new) }
+    ensures same { OnErr result (IsSame state.old state.new) }
 {
     state.frames.reserve(1)?;
     let monitor = lock(
@@ -184,7 +194,7 @@ pub fn push_call(
 /// few locals, the run is Broken.
 ///
 /// # Errors
-/// Where there is no memory; the state stands for what it stood for then.
+/// Where there is no memory; the state is as it was then.
 pub fn enter(
     state: &mut MachineState,
     world: &World,
@@ -203,6 +213,7 @@ pub fn enter(
     ensures entered { IfOk result (λ step. (callee : Method) → Sees world.now method.0 callee → Moves world.now state.old state.new step (enters_with (reference_seen named.entry) callee receiver given.now purpose state.old)) }
     ensures formed { IsFormed world.now state.new }
     ensures err { OnErr result (Keeps world.now state.old state.new) }
+    ensures same { OnErr result (IsSame state.old state.new) }
 {
     let alloc = *state.frames.allocator();
     let Some(code) = code_of_method(world, method) else {

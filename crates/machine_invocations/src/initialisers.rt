@@ -13,7 +13,7 @@ ghost use Rattle.class_machine.specs.Machine.{State};
 ghost use Rattle.machine_values.specs.declared.script.Answer.{Answer};
 ghost use Rattle.machine_steps.specs.Programs.{IsRunnable, Machine, IsMachine};
 ghost use Rattle.machine_steps.specs.Runs.{IsFormed, Runs};
-ghost use Rattle.machine_invocations.specs.Keeping.{Keeps};
+ghost use Rattle.machine_invocations.specs.Keeping.{Keeps, IsSame};
 ghost use Rattle.machine_invocations.specs.Selections.{member_named};
 ghost use Rattle.machine_invocations.specs.Initialising.{IsInitialiser, HasInitialiser, AreOwn, AddsPending, AddsFrames, ArePending, Begins, HasBegun, names_upward};
 
@@ -190,6 +190,7 @@ pub fn begin(state: &mut MachineState, world: &World, class: ClassId) -> Result<
     ensures formed { IsFormed world.now state.new }
     ensures added { IfOk result (λ some. AddsFrames state.old state.new some) }
     ensures err { OnErr result (Keeps world.now state.old state.new) }
+    ensures same { OnErr result (IsSame state.old state.new) }
 {
     let alloc = *state.frames.allocator();
     let fresh = pending(alloc, world, state.begun.as_slice(), class)?;

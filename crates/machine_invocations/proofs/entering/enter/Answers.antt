@@ -51,3 +51,12 @@ returns-clause-formed c =
     let sees = seen_there k c.args.method.0 c.requires.method in
     entered_formed k c.args.state.now c.push_call.new.state _ c.args.receiver c.in_ok-frame.frame (c.in_ok-push_call.ensures.ok _ sees)
     (subst (λ (f : Frame). IsMethod k f.method.0) (sym c.in_ok-frame.ensures) c.requires.method) c.requires.formed
+
+pub returns-in_err-name-clause-same : goal.returns-in_err-name-clause-same
+returns-in_err-name-clause-same c = on_err c.from_residual.result (record { rest = refl; frames = refl })
+
+pub returns-in_err-frame-clause-same : goal.returns-in_err-frame-clause-same
+returns-in_err-frame-clause-same c = on_err c.from_residual-in_err-frame.result (record { rest = refl; frames = refl })
+
+pub returns-in_err-push_call-clause-same : goal.returns-in_err-push_call-clause-same
+returns-in_err-push_call-clause-same c = on_err c.from_residual-in_err-push_call.result c.in_err-push_call.ensures.same

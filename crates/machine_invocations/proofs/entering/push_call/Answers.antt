@@ -3,6 +3,7 @@ use Rattle.machine_values.specs.declared.frames.Frame.{Frame}
 use Rattle.machine_values.specs.declared.state.MachineState.{MachineState}
 use Rattle.machine_requests.specs.Shares.{others_of}
 use Rattle.machine_invocations.proofs.Begun.{keeps_same, on_err}
+use Rattle.machine_invocations.proofs.Forgotten.{is_same}
 use Rattle.machine_invocations.proofs.entering.push_call.Goals as goal
 
 pub returns-in_err-reserve-clause-err : goal.returns-in_err-reserve-clause-err
@@ -21,6 +22,15 @@ returns-in_err-monitor-clause-err c =
       shares = λ m w is shares. c.in_err-monitor.ensures.err.shares m (others_of c.args.state.now) w is refl shares;
       filled = λ m w is shares. c.in_err-monitor.ensures.err.filled m (others_of c.args.state.now) w is shares;
     })
+
+pub returns-in_err-reserve-clause-same : goal.returns-in_err-reserve-clause-same
+returns-in_err-reserve-clause-same c = on_err c.from_residual.result (record { rest = refl; frames = c.reserve.ensures.items })
+
+pub returns-in_err-monitor-clause-same : goal.returns-in_err-monitor-clause-same
+returns-in_err-monitor-clause-same c =
+    let old = c.args.state.now in
+    let new : MachineState = record old { frames = c.reserve.new.self; heap = c.lock.new.heap; monitors = c.lock.new.monitors } in
+    on_err c.from_residual-in_err-monitor.result (is_same old new refl c.reserve.ensures.items c.in_err-monitor.ensures.heap c.in_err-monitor.ensures.monitors)
 
 pub returns-clause-ok : goal.returns-clause-ok
 returns-clause-ok c callee sees = record {

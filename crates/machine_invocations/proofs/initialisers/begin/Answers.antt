@@ -46,3 +46,9 @@ returns-clause-added c =
       none = none_fresh fresh.items (not c.is_empty-some.result) (ap not (c.is_empty-some.ensures ∙ ap (λ n. n == 0) (let n : vec_len fresh ≡ length fresh.items = omega (arith, fresh.ok.0) in n)));
       same = refl;
     }
+
+pub returns-in_err-fresh-clause-same : goal.returns-in_err-fresh-clause-same
+returns-in_err-fresh-clause-same c = on_err c.from_residual.result (record { rest = refl; frames = refl })
+
+pub returns-in_err-put_frames-clause-same : goal.returns-in_err-put_frames-clause-same
+returns-in_err-put_frames-clause-same c = on_err c.from_residual-in_err-put_frames.result (record { rest = refl; frames = c.in_err-put_frames.ensures.err })
