@@ -1,2 +1,2 @@
-pub mod Forms
 pub mod Standing
+pub mod Forms

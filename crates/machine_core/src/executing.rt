@@ -5,7 +5,7 @@ ghost use Rattle.std.specs.Prelude.{◌≡◌, true, IfOk, OnErr};
 ghost use Rattle.machine_steps.specs.Programs.{IsRunnable};
 ghost use Rattle.machine_steps.specs.Runs.{IsFormed};
 ghost use Rattle.machine_invocations.specs.Keeping.{Keeps};
-ghost use Rattle.machine_core.specs.Taking.{is_of_object, is_core_form, TakesForm};
+ghost use Rattle.machine_core.specs.Taking.{is_of_object, is_core_form, TakesCore};
 ghost use Rattle.machine_core.specs.ClassForms.{on_class};
 
 use class_file::{PoolEntry, class_at, field_at, string_at};
@@ -45,7 +45,7 @@ fn access_field(
     requires runnable { IsRunnable world.now }
     requires formed { IsFormed world.now state.old }
     ensures formed { IsFormed world.now state.new }
-    ensures takes { IfOk result (λ step. TakesForm world.now state.old state.new step pool.now (Operation.FieldAccess access index)) }
+    ensures takes { IfOk result (λ step. TakesCore world.now state.old state.new step pool.now (Operation.FieldAccess access index)) }
     ensures own { OnErr result (is_of_object access ≡ true) }
     ensures err { OnErr result (state.new ≡ state.old) }
 {
@@ -69,7 +69,7 @@ fn refer_to(
     requires runnable { IsRunnable world.now }
     requires formed { IsFormed world.now state.old }
     ensures formed { IsFormed world.now state.new }
-    ensures takes { IfOk result (λ step. TakesForm world.now state.old state.new step pool.now (Operation.Refer index)) }
+    ensures takes { IfOk result (λ step. TakesCore world.now state.old state.new step pool.now (Operation.Refer index)) }
     ensures err { OnErr result (state.new ≡ state.old) }
 {
     let Some(text) = string_at(pool, index) else {
@@ -90,7 +90,7 @@ fn execute_on_class(
     requires runnable { IsRunnable world.now }
     requires formed { IsFormed world.now state.old }
     ensures formed { IsFormed world.now state.new }
-    ensures takes { IfOk result (λ step. TakesForm world.now state.old state.new step pool.now (on_class form index)) }
+    ensures takes { IfOk result (λ step. TakesCore world.now state.old state.new step pool.now (on_class form index)) }
     ensures err { OnErr result (state.new ≡ state.old) }
 {
     let Some(class) = class_at(pool, index) else {
@@ -118,7 +118,7 @@ pub(crate) fn execute(
     requires runnable { IsRunnable world.now }
     requires formed { IsFormed world.now state.old }
     ensures formed { IsFormed world.now state.new }
-    ensures takes { IfOk result (λ step. TakesForm world.now state.old state.new step pool.now operation) }
+    ensures takes { IfOk result (λ step. TakesCore world.now state.old state.new step pool.now operation) }
     ensures own { OnErr result (is_core_form operation ≡ true) }
     ensures err { OnErr result (Keeps world.now state.old state.new) }
 {

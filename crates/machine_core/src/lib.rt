@@ -4,7 +4,6 @@
 #![tactic(auto)]
 
 mod executing;
-mod running;
 mod stepping;
 
 pub use stepping::step_core;

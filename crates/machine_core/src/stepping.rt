@@ -9,8 +9,8 @@ ghost use Rattle.machine_invocations.specs.Keeping.{Keeps};
 ghost use Rattle.machine_core.specs.Taking.{IsOwn};
 
 use crate::executing::execute;
-use crate::running::running_operation;
 use class_world::World;
+use machine_parts::running_operation;
 use machine_steps::Step;
 use machine_values::MachineState;
 use std::alloc::AllocError;

@@ -46,7 +46,7 @@ module _ (files : List ClassFile) (cs : Classes) (f : Frame Place) where
   basic_core (basic.Return kind) other = absurd (other kind refl)
   basic_core _ other = refl
 
-  named_core : {A : Type 0} (g : A → Operation) (found : Option A) (operation : Operation) → ((a : A) → part (g a) ≡ Part.Core) → option_map g found ≡ Some operation → part operation ≡ Part.Core
+  pub named_core : {A : Type 0} (g : A → Operation) (found : Option A) (operation : Operation) → ((a : A) → part (g a) ≡ Part.Core) → option_map g found ≡ Some operation → part operation ≡ Part.Core
   named_core g None operation each e = absurd cc
   named_core g (Some a) operation each e = subst (λ (o : Operation). part o ≡ Part.Core) (same_Some (g a) operation e) (each a)
 

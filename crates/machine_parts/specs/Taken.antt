@@ -25,7 +25,7 @@ use Rattle.machine_steps.specs.Running.{seen_by}
 use Rattle.machine_steps.specs.Runs.{Stepped}
 use Rattle.machine_parts.specs.Lines.{HasLine, IsAt, Executes, TakesLine, TakesForm}
 
-no_frames : {A B : Type 0} (f : A → B) (xs : List A) → map f (reverse xs) ≡ [] → 0 < length xs → ⊥
+pub no_frames : {A B : Type 0} (f : A → B) (xs : List A) → map f (reverse xs) ≡ [] → 0 < length xs → ⊥
 no_frames f xs none some = let n = length-map (reverse xs) f in let r = length-reverse xs in let e = ap length none in omega arith
 
 module _ (k : Known) (old new : MachineState) (before after : List Answer) (step : Step) (part : Part) where

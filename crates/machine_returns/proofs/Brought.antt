@@ -66,7 +66,8 @@ use Rattle.machine_statics.proofs.Returned.{off_runs, same_heap}
 use Rattle.machine_statics.proofs.Triggered.{at_last, none_runs}
 use Rattle.machine_works.specs.Finishing.{IsSound, ends_call}
 use Rattle.machine_works.specs.Sound as sound
-use Rattle.machine_returns.specs.Returns.{StandsForOne, MovesWithin, is_within, waits_below, brings_text}
+use Rattle.machine_parts.specs.Lines.{StandsForOne}
+use Rattle.machine_returns.specs.Returns.{MovesWithin, is_within, waits_below, brings_text}
 use Rattle.machine_returns.proofs.Plain.{IsPlain, resumed}
 use Rattle.machine_returns.proofs.Same.{same_back}
 

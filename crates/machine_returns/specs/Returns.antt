@@ -21,14 +21,6 @@ use Rattle.machine_steps.specs.Programs.{Machine, IsMachine}
 use Rattle.machine_steps.specs.Runs.{Runs, Stepped}
 use Rattle.machine_invocations.specs.Returning.{result_held}
 
--- the state stands for some state of a machine of the world
-pub record StandsForOne (k : Known) (state : MachineState) : Type 0 where
-  pub machine : Machine
-  pub left : List Answer
-  pub there : State Place
-  pub is : IsMachine k machine
-  pub runs : Runs machine state left there
-
 -- ---- which returns
 
 -- the result goes to a call of the library

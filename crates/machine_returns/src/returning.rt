@@ -11,7 +11,8 @@ ghost use Rattle.machine_steps.specs.Programs.{IsRunnable};
 ghost use Rattle.machine_steps.specs.Runs.{IsFormed};
 ghost use Rattle.machine_invocations.specs.Keeping.{Keeps};
 ghost use Rattle.machine_invocations.specs.Returning.{IsSettledResult};
-ghost use Rattle.machine_returns.specs.Returns.{StandsForOne, IsLeft, MovesWithin, brings_text};
+ghost use Rattle.machine_parts.specs.Lines.{StandsForOne};
+ghost use Rattle.machine_returns.specs.Returns.{IsLeft, MovesWithin, brings_text};
 
 use class_machine::kinds::Kind;
 use class_world::World;

@@ -11,9 +11,9 @@ use Rattle.machine_core.proofs.Forms.{names_none, field_taken}
 use Rattle.machine_core.proofs.executing.access_field.Goals as goal
 
 pub returns-in_default-clause-takes : goal.returns-in_default-clause-takes
-returns-in_default-clause-takes c bytes other e =
+returns-in_default-clause-takes c left bytes operation e stands =
     let old = c.args.state.now in
-    names_none c.args.world.now old old NotMine (FieldAccess c.args.access) other (field_at c.args.pool.now c.args.index) c.in_default.ensures e
+    names_none c.args.world.now old old NotMine (FieldAccess c.args.access) (field_at c.args.pool.now c.args.index) c.in_default.ensures left operation e
 
 pub returns-in-GetField-clause-takes : goal.returns-in-GetField-clause-takes
 returns-in-GetField-clause-takes c =

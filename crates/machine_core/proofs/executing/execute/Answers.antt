@@ -1,12 +1,12 @@
 use Rattle.std.specs.Prelude.{◌≡◌, true, OnErr, refl}
 use Rattle.machine_steps.specs.declared.step.Step.TheVariants.{NotMine}
-use Rattle.machine_core.specs.Taking.{is_core_form, TakesForm}
+use Rattle.machine_core.specs.Taking.{is_core_form, TakesCore}
 use Rattle.std.proofs.Common.{sym, ap, subst}
 use Rattle.machine_code.specs.declared.operation.Operation.{Operation}
 use Rattle.machine_code.specs.declared.operation.Operation.TheVariants as code
 use Rattle.machine_invocations.proofs.Begun.{on_err}
 use Rattle.machine_basics.specs.Performed.{is_return}
-use Rattle.machine_core.proofs.Forms.{basic_own, form_taken, basic_taken, switch_taken, call_left}
+use Rattle.machine_core.proofs.Forms.{basic_taking, form_taken, basic_taken, switch_taken, call_left}
 use Rattle.machine_core.proofs.executing.execute.Goals as goal
 
 pub returns-in-Do-clause-takes : goal.returns-in-Do-clause-takes
@@ -52,14 +52,14 @@ returns-in-Switch-clause-takes c =
     let old = c.args.state.now in
     let new = c.switch.new.state in
     let table = c.in-Switch.field-0 in
-    subst (λ (o : Operation). TakesForm k old new c.switch.result c.args.pool.now o) (sym c.in-Switch.is) (switch_taken k old new c.switch.result c.args.pool.now table c.switch.ensures.moves)
+    subst (λ (o : Operation). TakesCore k old new c.switch.result c.args.pool.now o) (sym c.in-Switch.is) (switch_taken k old new c.switch.result c.args.pool.now table c.switch.ensures.moves)
 
 pub returns-in-Invoke-clause-takes : goal.returns-in-Invoke-clause-takes
 returns-in-Invoke-clause-takes c = call_left c.args.world.now c.args.state.now c.args.state.now NotMine c.args.pool.now c.args.operation refl refl c.in-Invoke.is
 
 pub returns-in-Do-clause-own : goal.returns-in-Do-clause-own
 returns-in-Do-clause-own c =
-    subst (λ (o : Operation). OnErr c.step_basic.result (is_core_form o ≡ true)) (sym c.in-Do.is) (basic_own c.in-Do.basic c.step_basic.result (is_return c.in-Do.basic) refl c.step_basic.ensures.left)
+    subst (λ (o : Operation). OnErr c.step_basic.result (is_core_form o ≡ true)) (sym c.in-Do.is) (basic_taking c.in-Do.basic c.step_basic.result (is_return c.in-Do.basic) refl c.step_basic.ensures.left)
 
 pub returns-in-FieldAccess-clause-own : goal.returns-in-FieldAccess-clause-own
 returns-in-FieldAccess-clause-own c =

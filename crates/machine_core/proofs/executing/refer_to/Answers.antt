@@ -9,14 +9,14 @@ use Rattle.machine_code.specs.declared.operation.Operation.TheVariants as code
 use Rattle.machine_steps.specs.declared.step.Step.TheVariants.{NotMine}
 use Rattle.machine_steps.specs.Executing.{executes}
 use Rattle.machine_steps.specs.Moves.{Moves}
-use Rattle.machine_core.specs.Taking.{TakesForm}
+use Rattle.machine_core.specs.Taking.{TakesCore}
 use Rattle.machine_core.proofs.Forms.{names_core, names_none}
 use Rattle.machine_core.proofs.executing.refer_to.Goals as goal
 
 pub returns-in_default-clause-takes : goal.returns-in_default-clause-takes
-returns-in_default-clause-takes c bytes other e =
+returns-in_default-clause-takes c left bytes operation e stands =
     let old = c.args.state.now in
-    names_none c.args.world.now old old NotMine (λ (text : List ℕ). Refer (Literal (units_of text))) other (string_at c.args.pool.now c.args.index) c.in_default.ensures e
+    names_none c.args.world.now old old NotMine (λ (text : List ℕ). Refer (Literal (units_of text))) (string_at c.args.pool.now c.args.index) c.in_default.ensures left operation e
 
 pub returns-clause-takes : goal.returns-clause-takes
 returns-clause-takes c =
@@ -24,6 +24,6 @@ returns-clause-takes c =
     let old = c.args.state.now in
     let new = c.refer.new.state in
     let text = c.in-Some.text.now in
-    IfOk-weaker c.refer.result (λ step. Moves k old new step (executes (Refer (Literal c.as_slice.result.now)))) (λ step. TakesForm k old new step c.args.pool.now (code.Refer c.args.index))
-    (λ step moves bytes other e. names_core k old new step (λ (t : List ℕ). Refer (Literal (units_of t))) other (string_at c.args.pool.now c.args.index) text c.in-Some.ensures refl
-    (subst (λ (units : List ℕ). Moves k old new step (executes (Refer (Literal units)))) (c.as_slice.ensures.value ∙ c.in_ok-units.ensures) moves) e) c.refer.ensures.moves
+    IfOk-weaker c.refer.result (λ step. Moves k old new step (executes (Refer (Literal c.as_slice.result.now)))) (λ step. TakesCore k old new step c.args.pool.now (code.Refer c.args.index))
+    (λ step moves left bytes operation e stands. names_core k old new step (λ (t : List ℕ). Refer (Literal (units_of t))) (string_at c.args.pool.now c.args.index) text c.in-Some.ensures (λ m f. refl)
+    (subst (λ (units : List ℕ). Moves k old new step (executes (Refer (Literal units)))) (c.as_slice.ensures.value ∙ c.in_ok-units.ensures) moves) left operation e) c.refer.ensures.moves

@@ -3,12 +3,13 @@ use Rattle.std.proofs.lemmas.Result.{IfOk-weaker, on_err_weaker}
 use Rattle.machine_values.specs.declared.script.Answer.{Answer}
 use Rattle.machine_steps.specs.declared.step.Step.TheVariants.{NotMine}
 use Rattle.machine_steps.specs.Parts.{Part, Takes}
-use Rattle.machine_core.specs.Taking.{TakesForm}
-use Rattle.machine_core.proofs.Standing.{takes_nothing, takes_form, own_step}
+use Rattle.machine_parts.specs.Taken.{takes_form, leaves_nowhere}
+use Rattle.machine_core.specs.Taking.{TakesCore}
+use Rattle.machine_core.proofs.Standing.{own_step}
 use Rattle.machine_core.proofs.stepping.step_core.Goals as goal
 
 pub returns-in-None-clause-takes : goal.returns-in-None-clause-takes
-returns-in-None-clause-takes c answers = takes_nothing c.args.world.now c.args.state.now c.args.state.now NotMine refl refl c.in-None.ensures answers
+returns-in-None-clause-takes c answers = leaves_nowhere c.args.world.now c.args.state.now c.args.state.now answers answers NotMine Part.Core refl refl refl refl c.in-None.ensures
 
 pub returns-in-Some-clause-takes : goal.returns-in-Some-clause-takes
 returns-in-Some-clause-takes c =
@@ -16,8 +17,8 @@ returns-in-Some-clause-takes c =
     let old = c.args.state.now in
     let new = c.execute.new.state in
     let running = c.in-Some.running in
-    IfOk-weaker c.execute.result (λ step. TakesForm k old new step running.pool.now running.operation) (λ step. (answers : List Answer) → Takes Part.Core k old new answers answers step)
-    (λ step takes answers. takes_form k old new step running.pool.now running.operation c.in-Some.ensures takes answers) c.execute.ensures.takes
+    IfOk-weaker c.execute.result (λ step. TakesCore k old new step running.pool.now running.operation) (λ step. (answers : List Answer) → Takes Part.Core k old new answers answers step)
+    (λ step takes answers. takes_form k old new answers answers step Part.Core running.pool.now running.operation c.in-Some.ensures (takes answers)) c.execute.ensures.takes
 
 pub returns-in-Some-clause-own : goal.returns-in-Some-clause-own
 returns-in-Some-clause-own c =
