@@ -21,3 +21,4 @@ pub mod Readied
 pub mod Filling
 pub mod Undone
 pub mod Refilled
+mod TakenBack

@@ -1,12 +1,15 @@
 -- What an invocation took and changed.
 use Rattle.std.specs.Prelude.{◌≡◌, ℕ, suc, ◌≤◌, ◌++◌, Bool, List, [], ◌∷◌, reverse, length, Option, Some, None}
 use Rattle.aj_names.specs.declared.ids.ClassId.{ClassId}
+use Rattle.machine_values.specs.declared.content.Content.{Content}
 use Rattle.machine_values.specs.declared.frames.Frame.{Frame}
+use Rattle.machine_values.specs.declared.names.Name.{Name}
 use Rattle.machine_values.specs.declared.state.MachineState.{MachineState}
 use Rattle.machine_values.specs.declared.values.Local.{Local}
 use Rattle.machine_values.specs.declared.values.Ref.{Ref}
 use Rattle.machine_values.specs.declared.values.Value.{Value}
 use Rattle.machine_values.specs.Stacks.{weight}
+use Rattle.machine_values.specs.Things.{Things}
 use Rattle.machine_frames.specs.declared.calls.Receiver.TheVariants.{Object, Announced}
 use Rattle.machine_frames.specs.Undoing.{receiver_value}
 use Rattle.machine_invokes.specs.declared.invocation.Before.{Before}
@@ -64,3 +67,14 @@ pub record Refills (index : ℕ) (operands : List Value) (locals : List Local) (
 pub record RestoresFrame (index : ℕ) (call : Invocation) (old new : MachineState) : Type 0 where
   pub same : new ≡ record old { frames = new.frames }
   pub frames : (before after : MachineState) (own : List Frame) → CanUndo before after call → old.frames.items ≡ after.frames.items ++ own → length after.frames.items ≡ suc index → new.frames.items ≡ before.frames.items ++ own
+
+-- whatever name and content the last object had, it is no longer there
+abbrev pub ForgetsLast : Things → Things → Type 0
+ForgetsLast old new = (left : Things) (name : Name) (content : Content) → old.names ≡ left.names ++ name ∷ [] → old.contents ≡ left.contents ++ content ∷ [] → new ≡ left
+
+-- the marks of the classes are the saved ones, and the object of a token is no longer there; the frames stay
+abbrev pub TakesBack : MachineState → MachineState → Before → Type 0
+TakesBack old new (Arguments None) = new ≡ old
+TakesBack old new (Arguments (Some begun)) = new ≡ record old { begun = begun }
+TakesBack old new Receiver = new ≡ old
+TakesBack old new (Token class number operands locals) = (new ≡ record old { heap = new.heap }) × ForgetsLast old.heap new.heap

@@ -26,4 +26,4 @@ pub use starting::{Start, start_static};
 pub use taking::{
     are_settled, parameter_kinds, put_arguments_back, put_receiver_back, take_on, take_static,
 };
-pub use undoing::restore_frame;
+pub use undoing::{restore_frame, undo};

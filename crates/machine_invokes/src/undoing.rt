@@ -1,14 +1,16 @@
-//! The frame that an invocation was taken from is as it was again.
+//! The frame that an invocation was taken from is as it was again, or the whole state.
 
 ghost use Rattle.std.specs.Prelude.{◌≡◌, ◌<◌, [], length};
 ghost use Rattle.machine_values.specs.declared.frames.Frame.{Frame as FrameOf};
+ghost use Rattle.machine_values.specs.declared.state.MachineState.{MachineState as StateOf};
 ghost use Rattle.machine_frames.specs.Undoing.{reference_value};
-ghost use Rattle.machine_invokes.specs.Undoing.{IsRefilled, Refills, RestoresFrame};
+ghost use Rattle.machine_invocations.specs.Keeping.{IsSame};
+ghost use Rattle.machine_invokes.specs.Undoing.{CanUndo, ForgetsLast, IsRefilled, Refills, RestoresFrame, TakesBack};
 
 use crate::invocation::{Before, Invocation};
 use crate::taking::put_arguments_back;
 use machine_frames::put_back;
-use machine_values::{Frame, Local, Locals, MachineState, Operands, Ref, Value};
+use machine_values::{Frame, Heap, Local, Locals, MachineState, Operands, Ref, Value};
 
 // A reference as a value.
 fn reference_value(object: Option<Ref>) -> Value
@@ -75,4 +77,35 @@ pub fn restore_frame(state: &mut MachineState, index: usize, call: &Invocation)
             put_arguments_back(state, index, call.arguments.as_slice());
         }
     }
+}
+
+// The last object is forgotten.
+fn forget_last(heap: &mut Heap)
+    ensures { ForgetsLast heap.old heap.new }
+{
+    let count = heap.count();
+    if count > 0 {
+        heap.truncate(count - 1);
+    }
+}
+
+// The classes that were marked are as they were, and the object that was made is forgotten.
+fn take_back(state: &mut MachineState, before: Before)
+    ensures { TakesBack state.old state.new before }
+{
+    match before {
+        Before::Arguments(None) | Before::Receiver => {}
+        Before::Arguments(Some(begun)) => state.begun = begun,
+        Before::Token(_, _, _, _) => forget_last(&mut state.heap),
+    }
+}
+
+/// The state is again what it was before the invocation, where nothing was done since.
+pub fn undo(state: &mut MachineState, call: Invocation)
+    requires { 0 < length state.old.frames.items }
+    ensures { (before after : StateOf) → CanUndo before after call → IsSame after state.old → IsSame before state.new }
+{
+    let top = state.frames.len() - 1;
+    restore_frame(state, top, &call);
+    take_back(state, call.before);
 }
