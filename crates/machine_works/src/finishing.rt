@@ -8,7 +8,7 @@ ghost use Rattle.machine_requests.specs.Telling.{is_class_type};
 ghost use Rattle.machine_steps.specs.Moves.{Moves};
 ghost use Rattle.machine_steps.specs.Programs.{IsRunnable};
 ghost use Rattle.machine_steps.specs.Runs.{IsMethod, IsFormed};
-ghost use Rattle.machine_invocations.specs.Keeping.{Keeps};
+ghost use Rattle.machine_invocations.specs.Keeping.{Keeps, IsSame};
 ghost use Rattle.machine_invocations.specs.Methods.{Sees};
 ghost use Rattle.machine_invocations.specs.Returning.{IsSettledResult};
 ghost use Rattle.machine_works.specs.Finishing.{ends_call, calls_within, LoadsClass, MovesToClass, StandsAtWork, StaysAtThrow, Finishes};
@@ -70,6 +70,7 @@ fn call_within(
     ensures formed { IsFormed world.now state.new }
     ensures moves { IfOk result (λ step. (callee : Method) → Sees world.now method.0 callee → Moves world.now state.old state.new step (calls_within callee object wait state.old)) }
     ensures err { OnErr result (Keeps world.now state.old state.new) }
+    ensures same { OnErr result (IsSame state.old state.new) }
 {
     let place = declared(world, method);
     let name = &place.method.name;
@@ -100,7 +101,7 @@ fn call_within(
 /// else on with the object that stands for the class (JVMS 2.17.4). An array type initialises nothing.
 ///
 /// # Errors
-/// Where there is no memory; the state stands for what it stood for then.
+/// Where there is no memory; the state is as it was then.
 pub fn load(
     state: &mut MachineState,
     world: &World,
@@ -112,7 +113,9 @@ pub fn load(
     ensures formed { IsFormed world.now state.new }
     ensures loads { IfOk result (λ loaded. LoadsClass world.now state.old state.new class.now loaded) }
     ensures err { OnErr result (Keeps world.now state.old state.new) }
+    ensures same { OnErr result (IsSame state.old state.new) }
 {
+    let count = state.heap.count();
     let at = state.heap.class_object(class)?;
     let object = Value::Reference(at);
     if class.dims > 0 {
@@ -125,7 +128,14 @@ pub fn load(
     let Some(place) = world.class(name) else {
         return Ok(Loading::Goes(Step::Ended(Ending::Broken)));
     };
-    if begin(state, world, place)? {
+    let some = match begin(state, world, place) {
+        Ok(some) => some,
+        Err(failed) => {
+            state.heap.truncate(count);
+            return Err(failed);
+        }
+    };
+    if some {
         return Ok(Loading::Begins);
     }
     let step = take_back(state, world, false, Some(object));
@@ -144,6 +154,7 @@ fn load_class(
     ensures formed { IsFormed world.now state.new }
     ensures moves { IfOk result (λ step. MovesToClass world.now state.old state.new step class.now) }
     ensures err { OnErr result (Keeps world.now state.old state.new) }
+    ensures same { OnErr result (IsSame state.old state.new) }
 {
     match load(state, world, class)? {
         Loading::Begins => Ok(Step::Went),
@@ -155,8 +166,7 @@ fn load_class(
 /// `super_call` where that is a this or super call of a constructor.
 ///
 /// # Errors
-/// Where there is no memory; the state stands for what it stood for then, and is as it was where the work
-/// throws.
+/// Where there is no memory; the state is as it was then.
 pub fn finish_work(
     state: &mut MachineState,
     world: &World,
@@ -169,6 +179,7 @@ pub fn finish_work(
     ensures formed { IsFormed world.now state.new }
     ensures moves { IfOk result (λ step. Finishes world.now state.old state.new step super_call work) }
     ensures err { OnErr result (Keeps world.now state.old state.new) }
+    ensures same { OnErr result (IsSame state.old state.new) }
     ensures thrown { OnErr result (StaysAtThrow work state.old state.new) }
 {
     match work {

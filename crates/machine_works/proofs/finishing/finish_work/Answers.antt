@@ -3,7 +3,7 @@ use Rattle.std.proofs.lemmas.Result.{IfOk-weaker, on_err_weaker}
 use Rattle.machine_rules.specs.declared.work.Work.{Work}
 use Rattle.machine_works.specs.Finishing.{Finishes, StaysAtThrow}
 use Rattle.machine_works.proofs.Finished.{thrown_there, called_there, finishes_results, finishes_throws, finishes_calls, finishes_loads}
-use Rattle.machine_works.proofs.Kept.{on_equal, on_any}
+use Rattle.machine_works.proofs.Kept.{on_equal, on_same, on_any}
 use Rattle.machine_works.proofs.finishing.finish_work.Goals as goal
 
 pub raise-requires-clause-class : goal.raise-requires-clause-class
@@ -55,3 +55,9 @@ returns-in-Calls-clause-thrown c = on_any c.call_within.result (subst (λ (w : W
 
 pub returns-in-Loads-clause-thrown : goal.returns-in-Loads-clause-thrown
 returns-in-Loads-clause-thrown c = on_any c.load_class.result (subst (λ (w : Work). StaysAtThrow w c.args.state.now c.load_class.new.state) (sym c.in-Loads.is) tt)
+
+pub returns-in-Throws-clause-same : goal.returns-in-Throws-clause-same
+returns-in-Throws-clause-same c = on_same c.args.state.now c.raise.new.state c.raise.result c.raise.ensures.err
+
+pub returns-in-Faults-clause-same : goal.returns-in-Faults-clause-same
+returns-in-Faults-clause-same c = on_same c.args.state.now c.fail.new.state c.fail.result c.fail.ensures.err
