@@ -12,9 +12,9 @@ use Rattle.machine_values.specs.Things.{Things}
 use Rattle.machine_rules.specs.declared.work.Work.{Work}
 use Rattle.machine_rules.specs.declared.work.Work.TheVariants as work
 use Rattle.machine_rules.specs.Works.{ChangesBy}
-use Rattle.machine_invocations.specs.Keeping.{Keeps}
-use Rattle.machine_works.proofs.Kept.{keeps_itself}
-use Rattle.machine_calling.specs.Working.{ForgetsFrom, Undoes}
+use Rattle.machine_invocations.specs.Keeping.{Keeps, IsSame}
+use Rattle.machine_works.proofs.Kept.{keeps_itself, same_equal}
+use Rattle.machine_calling.specs.Working.{ForgetsFrom, Undoes, Restores}
 
 -- ---- by the work
 
@@ -26,6 +26,15 @@ work_undone k count old new (work.Calls method object wait) result throws keeps 
 work_undone k count old new (work.Loads class) result throws keeps = keeps
 work_undone k count old new (work.Exits status) result throws keeps = keeps
 work_undone k count old new work.Misuses result throws keeps = keeps
+
+pub work_restored : (count : ℕ) (old new : MachineState) (w : Work) → ((said : Option Event) (v : Option Value) → w ≡ work.Results said v → ⊥) → ((x : Ref) → w ≡ work.Throws x → ⊥) → IsSame old new → Restores count old new w
+work_restored count old new (work.Results said v) result throws same = absurd (result said v refl)
+work_restored count old new (work.Throws x) result throws same = absurd (throws x refl)
+work_restored count old new (work.Faults fault) result throws same = same
+work_restored count old new (work.Calls method object wait) result throws same = same
+work_restored count old new (work.Loads class) result throws same = same
+work_restored count old new (work.Exits status) result throws same = same
+work_restored count old new work.Misuses result throws same = same
 
 -- ---- the call, from the state before it
 
@@ -55,6 +64,18 @@ module _ (k : Known) (old new : MachineState) (heap : Things) (count : ℕ) (nam
   rule_refused (work.Loads class) changes undoes = left_with changes undoes
   rule_refused (work.Exits status) changes undoes = left_with changes undoes
   rule_refused work.Misuses changes undoes = left_with changes undoes
+
+  same_with : heap ≡ old.heap → IsSame (record old { heap = heap }) new → IsSame old new
+  same_with same left = subst (λ (h : Things). IsSame (record old { heap = h }) new) same left
+
+  pub rule_restored : (w : Work) → ChangesBy old.heap heap w → Restores count (record old { heap = heap }) new w → IsSame old new
+  rule_restored (work.Results said v) changes restores = absurd restores
+  rule_restored (work.Throws x) changes restores = same_equal old new (forgotten old new heap count names contents changes.names changes.contents restores)
+  rule_restored (work.Faults fault) changes restores = same_with changes restores
+  rule_restored (work.Calls method object wait) changes restores = same_with changes restores
+  rule_restored (work.Loads class) changes restores = same_with changes restores
+  rule_restored (work.Exits status) changes restores = same_with changes restores
+  rule_restored work.Misuses changes restores = same_with changes restores
 
 pub on_err_from : {T E P Q : Type 0} (r : Result T E) → (P → Q) → OnErr r P → OnErr r Q
 on_err_from (Ok x) f h = tt

@@ -12,7 +12,7 @@ use Rattle.machine_rules.specs.declared.work.Work.{Work}
 use Rattle.machine_rules.specs.declared.work.Work.TheVariants.{Results, Throws, Loads}
 use Rattle.machine_steps.specs.declared.step.Step.{Step}
 use Rattle.machine_steps.specs.Programs.{Machine}
-use Rattle.machine_invocations.specs.Keeping.{Keeps}
+use Rattle.machine_invocations.specs.Keeping.{Keeps, IsSame}
 use Rattle.machine_works.specs.Finishing.{BeginsClass, IsAtWork, Finishes}
 use Rattle.machine_invokes.specs.Preparing.{is_own}
 use Rattle.machine_calling.specs.declared.ran.Ran.{Ran}
@@ -54,3 +54,9 @@ abbrev pub Undoes : Known → ℕ → MachineState → MachineState → Work →
 Undoes k count old new (Results said v) = ⊥
 Undoes k count old new (Throws x) = ForgetsFrom count old new
 Undoes k count old new work = Keeps k old new
+
+-- The same; what else is refused leaves the state as it was.
+abbrev pub Restores : ℕ → MachineState → MachineState → Work → Type 0
+Restores count old new (Results said v) = ⊥
+Restores count old new (Throws x) = ForgetsFrom count old new
+Restores count old new work = IsSame old new

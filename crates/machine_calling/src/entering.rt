@@ -9,7 +9,7 @@ ghost use Rattle.machine_values.specs.Standing.{Settled};
 ghost use Rattle.machine_values.specs.States.{is_known_object, is_known_purpose};
 ghost use Rattle.machine_steps.specs.Programs.{IsRunnable};
 ghost use Rattle.machine_steps.specs.Runs.{IsMethod, IsFormed};
-ghost use Rattle.machine_invocations.specs.Keeping.{Keeps};
+ghost use Rattle.machine_invocations.specs.Keeping.{Keeps, IsSame};
 ghost use Rattle.machine_invocations.specs.Methods.{Sees};
 ghost use Rattle.machine_natives.specs.Calls.{values_given};
 ghost use Rattle.machine_invokes.specs.Preparing.{runs_call};
@@ -42,7 +42,7 @@ fn values_of(
 /// The method, which isn't native and has no rule, gets a frame (JVMS 3.6).
 ///
 /// # Errors
-/// Where there is no memory; the state stands for what it stood for then.
+/// Where there is no memory; the state is as it was then.
 pub(crate) fn enter_method(
     state: &mut MachineState,
     world: &World,
@@ -58,6 +58,7 @@ pub(crate) fn enter_method(
     ensures formed { IsFormed world.now state.new }
     ensures goes { IfOk result (λ step. (left : List AnswerOf) (callee : Method) → Sees world.now call.now.method.0 callee → callee.is_native ≡ false → callee.rule ≡ None → Goes world.now state.old state.new left left step (runs_call (reference_seen named.entry) callee call.now state.old)) }
     ensures err { OnErr result (Keeps world.now state.old state.new) }
+    ensures same { OnErr result (IsSame state.old state.new) }
 {
     let alloc = *state.frames.allocator();
     let values = values_of(alloc, call.receiver, call.arguments.as_slice())?;

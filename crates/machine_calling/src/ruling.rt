@@ -13,12 +13,12 @@ ghost use Rattle.machine_requests.specs.Telling.{is_class_type};
 ghost use Rattle.machine_rules.specs.declared.work.Work.TheVariants.{Throws, Loads};
 ghost use Rattle.machine_steps.specs.Programs.{IsRunnable};
 ghost use Rattle.machine_steps.specs.Runs.{IsFormed};
-ghost use Rattle.machine_invocations.specs.Keeping.{Keeps};
+ghost use Rattle.machine_invocations.specs.Keeping.{Keeps, IsSame};
 ghost use Rattle.machine_invocations.specs.Methods.{Sees};
 ghost use Rattle.machine_works.specs.Finishing.{StandsAtWork};
 ghost use Rattle.machine_invokes.specs.Preparing.{runs_call};
 ghost use Rattle.machine_calling.specs.Ran.{StandsSomewhere, HasRoom, RanBy};
-ghost use Rattle.machine_calling.specs.Working.{loads_one, ForgetsFrom, RanWith, Undoes};
+ghost use Rattle.machine_calling.specs.Working.{loads_one, ForgetsFrom, RanWith, Undoes, Restores};
 
 use crate::natives::constructs;
 use crate::ran::Ran;
@@ -59,6 +59,7 @@ fn load_class(state: &mut MachineState, world: &World, class: &FieldType) -> Res
     ensures formed { IsFormed world.now state.new }
     ensures ran { IfOk result (λ ran. (super : Bool) → RanWith world.now state.old state.new super (Loads class.now) ran) }
     ensures err { OnErr result (Keeps world.now state.old state.new) }
+    ensures same { OnErr result (IsSame state.old state.new) }
 {
     match load(state, world, class)? {
         Loading::Begins => Ok(Ran::Begins),
@@ -79,6 +80,7 @@ fn finish_other(
     ensures formed { IsFormed world.now state.new }
     ensures ran { IfOk result (λ ran. loads_one work ≡ false → RanWith world.now state.old state.new super_call work ran) }
     ensures err { OnErr result (Keeps world.now state.old state.new) }
+    ensures same { OnErr result (IsSame state.old state.new) }
 {
     let step = finish_work(state, world, super_call, work)?;
     Ok(Ran::Done(step))
@@ -98,6 +100,7 @@ fn finish(
     ensures formed { IsFormed world.now state.new }
     ensures ran { IfOk result (λ ran. RanWith world.now state.old state.new super_call work ran) }
     ensures err { OnErr result (Undoes world.now count state.old state.new work) }
+    ensures same { OnErr result (Restores count state.old state.new work) }
 {
     match work {
         Work::Results(said, value) => {
@@ -113,7 +116,7 @@ fn finish(
 /// The method of the library does what its rule says.
 ///
 /// # Errors
-/// Where there is no memory; the state stands for what it stood for then.
+/// Where there is no memory; the state is as it was then.
 pub(crate) fn run_rule(
     state: &mut MachineState,
     world: &World,
@@ -128,6 +131,7 @@ pub(crate) fn run_rule(
     ensures formed { IsFormed world.now state.new }
     ensures ran { IfOk result (λ ran. (left : List AnswerOf) (callee : Method) (r : Named) → callee.is_native ≡ false → callee.rule ≡ Some rule → HasRoom world.now state.old left callee → RanBy world.now state.old state.new left left (runs_call r callee call.now state.old) ran) }
     ensures err { OnErr result (Keeps world.now state.old state.new) }
+    ensures same { OnErr result (IsSame state.old state.new) }
 {
     let alloc = *state.frames.allocator();
     let count = state.heap.count();

@@ -8,7 +8,7 @@ ghost use Rattle.machine_values.specs.Standing.{Settled};
 ghost use Rattle.machine_values.specs.States.{is_known_object, is_known_purpose};
 ghost use Rattle.machine_steps.specs.Programs.{IsRunnable};
 ghost use Rattle.machine_steps.specs.Runs.{IsMethod, IsFormed, answers_left};
-ghost use Rattle.machine_invocations.specs.Keeping.{Keeps};
+ghost use Rattle.machine_invocations.specs.Keeping.{Keeps, IsSame};
 ghost use Rattle.machine_invocations.specs.Methods.{Sees};
 ghost use Rattle.machine_invokes.specs.Preparing.{runs_call};
 ghost use Rattle.machine_calling.specs.Ran.{StandsSomewhere, HasRoom, RanBy};
@@ -29,7 +29,7 @@ use std::alloc::AllocError;
 /// with code.
 ///
 /// # Errors
-/// Where there is no memory; the state stands for what it stood for then, and the script is as it was.
+/// Where there is no memory; the state and the script are as they were then.
 pub fn run_method(
     state: &mut MachineState,
     world: &World,
@@ -47,6 +47,7 @@ pub fn run_method(
     ensures formed { IsFormed world.now state.new }
     ensures ran { IfOk result (λ ran. (callee : Method) → Sees world.now call.now.method.0 callee → HasRoom world.now state.old (answers_left script.old) callee → RanBy world.now state.old state.new (answers_left script.old) (answers_left script.new) (runs_call (reference_seen named.entry) callee call.now state.old) ran) }
     ensures err { OnErr result (Keeps world.now state.old state.new) }
+    ensures same { OnErr result (IsSame state.old state.new) }
     ensures script { OnErr result (script.new ≡ script.old) }
 {
     if is_native(world, call.method) {

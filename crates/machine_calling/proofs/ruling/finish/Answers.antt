@@ -2,9 +2,9 @@ use Rattle.std.proofs.Common.{sym, subst}
 use Rattle.std.proofs.lemmas.Result.{IfOk-weaker}
 use Rattle.machine_rules.specs.declared.work.Work.{Work}
 use Rattle.machine_works.proofs.Finished.{thrown_there}
-use Rattle.machine_calling.specs.Working.{FinishesOwn, RanWith, Undoes}
+use Rattle.machine_calling.specs.Working.{FinishesOwn, RanWith, Undoes, Restores}
 use Rattle.machine_calling.proofs.Worked.{thrown_known, loaded_type, loads_none, results_own}
-use Rattle.machine_calling.proofs.Refused.{on_err_from, work_undone}
+use Rattle.machine_calling.proofs.Refused.{on_err_from, work_undone, work_restored}
 use Rattle.machine_calling.proofs.ruling.finish.Goals as goal
 
 pub throw-requires-clause-known : goal.throw-requires-clause-known
@@ -52,3 +52,14 @@ pub returns-in_default-clause-err : goal.returns-in_default-clause-err
 returns-in_default-clause-err c =
     on_err_from c.finish_other.result
     (λ h. work_undone c.args.world.now c.args.count c.args.state.now c.finish_other.new.state c.args.work (λ said v is. c.in_default.not-Results said v is) (λ x is. c.in_default.not-Throws x is) h) c.finish_other.ensures.err
+
+pub returns-in-Throws-clause-same : goal.returns-in-Throws-clause-same
+returns-in-Throws-clause-same c = on_err_from c.throw.result (λ h. subst (Restores c.args.count c.args.state.now c.throw.new.state) (sym c.in-Throws.is) h) c.throw.ensures.err
+
+pub returns-in-Loads-clause-same : goal.returns-in-Loads-clause-same
+returns-in-Loads-clause-same c = on_err_from c.load_class.result (λ h. subst (Restores c.args.count c.args.state.now c.load_class.new.state) (sym c.in-Loads.is) h) c.load_class.ensures.same
+
+pub returns-in_default-clause-same : goal.returns-in_default-clause-same
+returns-in_default-clause-same c =
+    on_err_from c.finish_other.result
+    (λ h. work_restored c.args.count c.args.state.now c.finish_other.new.state c.args.work (λ said v is. c.in_default.not-Results said v is) (λ x is. c.in_default.not-Throws x is) h) c.finish_other.ensures.same

@@ -12,7 +12,7 @@ use Rattle.machine_calling.specs.Working.{RanWith}
 use Rattle.machine_calling.specs.Ran.{constructs}
 use Rattle.machine_calling.proofs.AtWork.{stands_at_work}
 use Rattle.machine_calling.proofs.Worked.{rule_ran}
-use Rattle.machine_calling.proofs.Refused.{on_err_from, rule_refused}
+use Rattle.machine_calling.proofs.Refused.{on_err_from, rule_refused, rule_restored}
 use Rattle.machine_calling.proofs.ruling.run_rule.Goals as goal
 
 pub by_rule-requires-clause-library : goal.by_rule-requires-clause-library
@@ -40,3 +40,9 @@ returns-clause-err c =
     on_err_from c.finish.result
     (λ h. rule_refused c.args.world.now c.args.state.now c.finish.new.state c.by_rule.new.heap c.count-count.result c.count-count.ensures.count c.count-count.ensures.contents c.in_ok-work.work c.in_ok-work.ensures.changes h)
     c.finish.ensures.err
+
+pub returns-clause-same : goal.returns-clause-same
+returns-clause-same c =
+    on_err_from c.finish.result
+    (λ h. rule_restored c.args.world.now c.args.state.now c.finish.new.state c.by_rule.new.heap c.count-count.result c.count-count.ensures.count c.count-count.ensures.contents c.in_ok-work.work c.in_ok-work.ensures.changes h)
+    c.finish.ensures.same

@@ -2,7 +2,7 @@ use Rattle.std.proofs.Common.{sym, ap, ◌∙◌, subst}
 use Rattle.std.proofs.lemmas.Result.{IfOk-weaker}
 use Rattle.class_file.specs.Lookup.{reference_seen}
 use Rattle.machine_steps.specs.Runs.{answers_left}
-use Rattle.machine_works.proofs.Kept.{on_equal}
+use Rattle.machine_works.proofs.Kept.{on_equal, on_same}
 use Rattle.machine_calling.proofs.running.run_method.Goals as goal
 
 pub returns-then-is_native-clause-ran : goal.returns-then-is_native-clause-ran
@@ -20,3 +20,6 @@ returns-in-Some-clause-ran c =
 pub returns-in_ok-step-in-None-clause-ran : goal.returns-in_ok-step-in-None-clause-ran
 returns-in_ok-step-in-None-clause-ran c callee sees room =
     c.in_ok-step-in-None.ensures.goes (answers_left c.args.script.now) callee sees (sym (c.is_native.ensures callee sees) ∙ c.if-is_native.false) (sym (c.in-None.ensures callee sees))
+
+pub returns-then-is_native-clause-same : goal.returns-then-is_native-clause-same
+returns-then-is_native-clause-same c = on_same c.args.state.now c.run_native.new.state c.run_native.result c.run_native.ensures.err
