@@ -1,11 +1,11 @@
 -- Texts that come back into the calls that wait for them.
-use Rattle.std.specs.Prelude.{◌≡◌, ℕ, ◌<◌, ◌≤◌, ◌-◌, Bool, true, false, if◌then◌else◌, List, [], ◌∷◌, ◌++◌, map, reverse, length, slice_get, Option, Some, None, refl}
+use Rattle.std.specs.Prelude.{◌≡◌, ℕ, ◌<◌, ◌≤◌, ◌-◌, Bool, true, false, List, [], ◌∷◌, ◌++◌, map, reverse, length, slice_get, Option, Some, None, refl}
 use Rattle.std.specs.Bool.{MatchBool}
 use Rattle.std.specs.Global.{Vec}
 use Rattle.std.specs.List.{AllByRecursion}
 use Rattle.std.specs.Option.{option_map}
 use Rattle.std.proofs.Common.{sym, ap, ◌∙◌, subst, arith, length-append}
-use Rattle.std.proofs.lemmas.Bool.{and_parts, false≢true}
+use Rattle.std.proofs.lemmas.Bool.{and_parts}
 use Rattle.std.proofs.lemmas.List.{length-map, length-reverse}
 use Rattle.class_world.specs.Tables.{Known}
 use Rattle.class_machine.specs.declared.kinds.Kind.{Kind}
@@ -20,8 +20,7 @@ use Rattle.class_machine.specs.Machine.{State, leaving, moved, back_in, returned
 use Rattle.class_machine.specs.Operations.{Do}
 use Rattle.class_machine.specs.Turn as turns
 use Rattle.class_machine.specs.Turn.{Leaves, resolved, worked}
-use Rattle.class_machine.specs.Values.{Held}
-use Rattle.class_machine.specs.World.{World, shown}
+use Rattle.class_machine.specs.World.{World}
 use Rattle.machine_values.specs.declared.frames.Frame.{Frame}
 use Rattle.machine_values.specs.declared.frames.Purpose.{Purpose}
 use Rattle.machine_values.specs.declared.frames.Purpose.TheVariants.{Ordinary, Constructs, Initialises, Within}
@@ -34,7 +33,7 @@ use Rattle.machine_values.specs.declared.script.Answer.{Answer}
 use Rattle.machine_values.specs.declared.state.MachineState.{MachineState}
 use Rattle.machine_values.specs.declared.values.Value.{Value}
 use Rattle.machine_values.specs.Observed.{machine_event}
-use Rattle.machine_values.specs.Standing.{held, Settled}
+use Rattle.machine_values.specs.Standing.{held}
 use Rattle.machine_values.specs.States.{machine_wait, machine_purpose, machine_due, is_known_object, is_known_destination, is_known_purpose, IsStaticWithin, IsFrameWithin}
 use Rattle.machine_values.specs.Things.{Things}
 use Rattle.machine_frames.specs.Effects.{operands_of}
@@ -67,7 +66,7 @@ use Rattle.machine_statics.proofs.Triggered.{at_last, none_runs}
 use Rattle.machine_works.specs.Finishing.{IsSound, ends_call}
 use Rattle.machine_works.specs.Sound as sound
 use Rattle.machine_parts.specs.Lines.{StandsForOne}
-use Rattle.machine_returns.specs.Returns.{MovesWithin, is_within, waits_below, brings_text}
+use Rattle.machine_returns.specs.Returns.{MovesWithin, is_within, waits_below}
 use Rattle.machine_returns.proofs.Plain.{IsPlain, resumed}
 use Rattle.machine_returns.proofs.Same.{same_back}
 

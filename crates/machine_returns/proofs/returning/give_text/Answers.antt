@@ -4,7 +4,7 @@ use Rattle.machine_values.specs.Things.{Things}
 use Rattle.machine_rules.specs.Library.{HasLibrary}
 use Rattle.machine_rules.proofs.RuledWork.{whole_still}
 use Rattle.machine_works.proofs.Kept.{keeps_equal, on_any}
-use Rattle.machine_returns.proofs.Brought.{formed_two, text_given, text_refused, result_settled, none_within}
+use Rattle.machine_returns.proofs.Brought.{formed_two, text_given, text_refused, result_settled}
 use Rattle.machine_returns.proofs.returning.give_text.Goals as goal
 
 pub resume-requires-clause-library : goal.resume-requires-clause-library

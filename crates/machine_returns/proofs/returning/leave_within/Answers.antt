@@ -4,7 +4,6 @@ use Rattle.std.proofs.lemmas.Result.{IfOk-weaker}
 use Rattle.machine_values.specs.declared.observed.Ending.TheVariants.{Broken}
 use Rattle.machine_values.specs.declared.values.Value.{Value}
 use Rattle.machine_steps.specs.declared.step.Step.TheVariants.{Ended}
-use Rattle.machine_invocations.specs.Returning.{IsSettledResult}
 use Rattle.machine_returns.specs.Returns.{MovesWithin}
 use Rattle.machine_returns.proofs.Brought.{no_text}
 use Rattle.machine_returns.proofs.returning.leave_within.Goals as goal
