@@ -32,7 +32,7 @@ use Rattle.machine_steps.specs.Runs.{Runs}
 use Rattle.machine_steps.specs.Within.{frames_more, due_more}
 use Rattle.machine_works.specs.Finishing.{IsSound, IsAtWork, StandsAtWork}
 use Rattle.machine_works.specs.Sound as sound
-use Rattle.machine_calling.specs.Ran.{StandsSomewhere}
+use Rattle.machine_parts.specs.Lines.{StandsForOne}
 
 pub is_setting : (k : Known) (m : Machine) → IsMachine k m → IsSettingOf k m.setting
 is_setting k m is = record { heads = is.heads; classes = is.classes; distinct = is.distinct }
@@ -73,7 +73,7 @@ module _ (k : Known) (old : MachineState) (heap : Things) (rule : LibraryRule) (
         sound = subst (IsSound m.setting.classes t.world) (sym (ruled_same m t.world rule a vs)) (sound.ruled (class_code m.files) m.setting.classes t.world rule a vs);
       })
 
-  pub stands_at_work : StandsSomewhere k old → StandsAtWork k (record old { heap = heap }) work
+  pub stands_at_work : StandsForOne k old → StandsAtWork k (record old { heap = heap }) work
   stands_at_work somewhere = record {
     machine = somewhere.machine;
     left = somewhere.left;

@@ -3,3 +3,4 @@ pub mod Turns
 pub mod AtWork
 pub mod Worked
 pub mod Refused
+pub mod Restored

@@ -27,14 +27,6 @@ use Rattle.machine_calling.specs.declared.ran.Ran.TheVariants.{Done, Begins, Lac
 
 -- ---- what is known beforehand
 
--- the state stands for some state of a machine of the world
-pub record StandsSomewhere (k : Known) (state : MachineState) : Type 0 where
-  pub machine : Machine
-  pub left : List Answer
-  pub there : State Place
-  pub is : IsMachine k machine
-  pub runs : Runs machine state left there
-
 -- a method without a frame has room for its result in the running frame
 abbrev pub HasRoom : Known → MachineState → List Answer → Method → Type 0
 HasRoom k state left callee =
@@ -83,3 +75,7 @@ abbrev pub RanBy : Known → MachineState → MachineState → List Answer → L
 RanBy k old new before after turning (Done step) = Goes k old new before after step turning
 RanBy k old new before after turning Begins = BeginsFirst k old new before after turning
 RanBy k old new before after turning (Lacks event) = LacksAnswer k old new before after event turning
+
+abbrev pub is_done : Ran → Bool
+is_done (Done step) = true
+is_done ran = false

@@ -5,7 +5,7 @@ use machine_values::Event;
 
 /// What running a method comes to.
 #[derive(Drop)]
-pub enum Ran {
+pub(crate) enum Ran {
     /// The step is done.
     Done(Step),
     /// Initialisers come first: their frames stand on top, and the instruction is to be executed again.

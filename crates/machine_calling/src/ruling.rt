@@ -17,7 +17,8 @@ ghost use Rattle.machine_invocations.specs.Keeping.{Keeps, IsSame};
 ghost use Rattle.machine_invocations.specs.Methods.{Sees};
 ghost use Rattle.machine_works.specs.Finishing.{StandsAtWork};
 ghost use Rattle.machine_invokes.specs.Preparing.{runs_call};
-ghost use Rattle.machine_calling.specs.Ran.{StandsSomewhere, HasRoom, RanBy};
+ghost use Rattle.machine_parts.specs.Lines.{StandsForOne};
+ghost use Rattle.machine_calling.specs.Ran.{HasRoom, RanBy};
 ghost use Rattle.machine_calling.specs.Working.{loads_one, ForgetsFrom, RanWith, Undoes, Restores};
 
 use crate::natives::constructs;
@@ -127,7 +128,7 @@ pub(crate) fn run_rule(
     requires formed { IsFormed world.now state.old }
     requires receiver { is_known_object (length state.old.heap.names) call.now.receiver ≡ true }
     requires arguments { AllByRecursion (Settled (length state.old.heap.names)) call.now.arguments.items }
-    requires there { StandsSomewhere world.now state.old }
+    requires there { StandsForOne world.now state.old }
     ensures formed { IsFormed world.now state.new }
     ensures ran { IfOk result (λ ran. (left : List AnswerOf) (callee : Method) (r : Named) → callee.is_native ≡ false → callee.rule ≡ Some rule → HasRoom world.now state.old left callee → RanBy world.now state.old state.new left left (runs_call r callee call.now state.old) ran) }
     ensures err { OnErr result (Keeps world.now state.old state.new) }

@@ -11,7 +11,8 @@ ghost use Rattle.machine_steps.specs.Runs.{IsMethod, IsFormed, answers_left};
 ghost use Rattle.machine_invocations.specs.Keeping.{Keeps, IsSame};
 ghost use Rattle.machine_invocations.specs.Methods.{Sees};
 ghost use Rattle.machine_invokes.specs.Preparing.{runs_call};
-ghost use Rattle.machine_calling.specs.Ran.{StandsSomewhere, HasRoom, RanBy};
+ghost use Rattle.machine_parts.specs.Lines.{StandsForOne};
+ghost use Rattle.machine_calling.specs.Ran.{HasRoom, RanBy};
 
 use crate::entering::enter_method;
 use crate::natives::run_native;
@@ -30,7 +31,7 @@ use std::alloc::AllocError;
 ///
 /// # Errors
 /// Where there is no memory; the state and the script are as they were then.
-pub fn run_method(
+pub(crate) fn run_method(
     state: &mut MachineState,
     world: &World,
     script: &mut Script,
@@ -43,7 +44,7 @@ pub fn run_method(
     requires receiver { is_known_object (length state.old.heap.names) call.now.receiver ≡ true }
     requires arguments { AllByRecursion (Settled (length state.old.heap.names)) call.now.arguments.items }
     requires purpose { is_known_purpose (length state.old.heap.names) call.now.purpose ≡ true }
-    requires there { StandsSomewhere world.now state.old }
+    requires there { StandsForOne world.now state.old }
     ensures formed { IsFormed world.now state.new }
     ensures ran { IfOk result (λ ran. (callee : Method) → Sees world.now call.now.method.0 callee → HasRoom world.now state.old (answers_left script.old) callee → RanBy world.now state.old state.new (answers_left script.old) (answers_left script.new) (runs_call (reference_seen named.entry) callee call.now state.old) ran) }
     ensures err { OnErr result (Keeps world.now state.old state.new) }

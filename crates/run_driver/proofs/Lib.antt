@@ -1,0 +1,3 @@
+pub mod Machines
+pub mod Taken
+pub mod Reached
