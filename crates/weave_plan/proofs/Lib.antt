@@ -1,5 +1,6 @@
 pub mod Lists
 pub mod Read
+pub mod ReadClasses
 pub mod Placed
 pub mod Decoded
 pub mod Characters

@@ -30,7 +30,7 @@ pub record AreRead (files : Files) (all : List Parsed) : Type 0 where
   pub parsed : AllZip IsParsed files all
   pub read : find is_faulty files ≡ None
 
-named : (files : List NamedFile) (i : ℕ) (file : NamedFile) → i < length files → file ≡ get_or files i file → files_of (take (i + 1) files) ≡ files_of (take i files) ++ record_of file ∷ []
+pub named : (files : List NamedFile) (i : ℕ) (file : NamedFile) → i < length files → file ≡ get_or files i file → files_of (take (i + 1) files) ≡ files_of (take i files) ++ record_of file ∷ []
 named files i file lt e =
     ap files_of (take_more files i file lt ∙ ap (λ (x : NamedFile). take i files ++ x ∷ []) (sym e)) ∙ map-append record_of (take i files) (file ∷ [])
 

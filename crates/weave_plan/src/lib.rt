@@ -3,6 +3,7 @@
 #![tactic(auto)]
 
 mod built;
+mod class_files;
 mod file_names;
 mod forms;
 mod outputs;
@@ -10,5 +11,6 @@ mod parsing;
 mod planning;
 mod worlds;
 
+pub use class_files::{ReadFault, read_classes};
 pub use file_names::utf8_of;
 pub use planning::{NamedFile, PlanFault, plan};

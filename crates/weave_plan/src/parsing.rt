@@ -27,7 +27,7 @@ pub(crate) enum Parsed {
 }
 
 /// Whether a file is that of a class; another one is that of an aspect.
-fn is_class_file(name: &str) -> bool
+pub(crate) fn is_class_file(name: &str) -> bool
     ensures { result ≡ input.is_class_file name.now }
 {
     name.as_bytes().ends_with(b".class")
