@@ -1,4 +1,4 @@
--- What a run answers, from how its command ended and what was printed.
+-- What a weaving answers, from how its command ended and what was printed; and what is answered where there is no command.
 use Rattle.std.proofs.Common.{◌≡◌, ◌≢◌, ◌↔◌, ℕ, ◌⊎◌, inl, inr, List, [], ◌++◌, Option, Some, None, Result, Ok, Err, refl, ap, sym, ◌∙◌, subst}
 use Rattle.std.specs.Prelude.{IfSome}
 use Rattle.std.specs.Option.{option_map}
@@ -7,13 +7,15 @@ use Rattle.aj_outside.specs.Files.{Files}
 use Rattle.class_file.specs.declared.types.ClassFile.{ClassFile}
 use Rattle.jp_model.specs.declared.first_aspect.FirstAspect.{FirstAspect}
 use Rattle.ajweave.specs.declared.status.Refusal.{Refusal}
+use Rattle.ajweave.specs.declared.status.Refusal.TheVariants.{NoScript}
 use Rattle.ajweave.specs.declared.status.Status.{Status}
 use Rattle.ajweave.specs.declared.status.Status.TheVariants as status
 use Rattle.ajweave.specs.declared.stop.Stop.{Stop}
 use Rattle.ajweave.specs.declared.stop.Stop.TheVariants as stop
 use Rattle.ajweave.specs.Words.{Folders, usage_line, refusal_line}
-use Rattle.ajweave.specs.Answers.{AnswersPrinted, AnswersRead, AnswersDone, IsRefused, IsValid, Wrote, WritesWeaving, BehavesAsWritten, WritesExactly, WritesUntouched, WritesDeclared, OnTold, Commanded, CommandedTo, CommandedSome, KeepsShelf, IsDue, PrintsPart, Prints}
-use Rattle.ajweave.specs.Steps.{Ends, PrintsFor, Reports}
+use Rattle.ajweave.specs.Answers.{AnswersPrinted, AnswersRead, AnswersDone, IsRefused, IsValid, Wrote, WritesWeaving, BehavesAsWritten, WritesExactly, WritesUntouched, WritesDeclared, OnTold, Commanded, CommandedTo, CommandedSome, KeepsShelf, IsDue, PrintsPart, Prints, PrintsFor}
+use Rattle.ajweave.specs.Runs.{IsOfRun}
+use Rattle.ajweave.specs.Steps.{OnStop, IsOfWeaving, IsWeavingStop, Ends, Reports}
 use Rattle.ajweave.proofs.Refusals.{IsRefused-same, IsValid-never_refused}
 
 abbrev pub Ended : Type 0
@@ -153,6 +155,36 @@ memory_ended folders held held_now =
     after_command (λ ended result. Ends ended folders held held_now → result ≡ status.OutOfMemory → (held_now ≡ held) ⊎ CommandedSome (Some folders) held held_now)
     (λ x e d. cc) (λ e d. cc) (λ e d. cc) (λ e d. e) (λ refusal e d. cc) (λ refusal e d. cc) (λ refusal e d. inl e.0)
 
+-- it is none of a run's answers
+pub command_never_observed : (ended : Ended) (result : Status) (before now : Text) → Reports ended result before now → IsOfRun result → ⊥
+command_never_observed =
+    after_command (λ ended result. IsOfRun result → ⊥) (λ x i. i) (λ i. i) (λ i. i) (λ i. i) (λ refusal i. i) (λ refusal i. i) (λ refusal i. i)
+
+-- no file of a script is missing
+pub command_never_unscripted : (name : List ℕ) (ended : Ended) (result : Status) (before now : Text) → Reports ended result before now → OnStop ended IsWeavingStop → result ≢ refused (NoScript name)
+command_never_unscripted name =
+    after_command (λ ended result. OnStop ended IsWeavingStop → result ≢ refused (NoScript name))
+    (λ x own d. cc) (λ own d. cc) (λ own d. cc) (λ own d. cc) (λ refusal own d. subst IsOfWeaving (refused-same refusal (NoScript name) d) own) (λ refusal own d. cc) (λ refusal own d. cc)
+
+-- the shelf holds what it held
+pub kept_always : (result : Status) (held held_now : Option Files) → held_now ≡ held → KeepsShelf result held held_now
+kept_always status.Done held held_now same = tt
+kept_always (status.Refused refusal) held held_now same = same
+kept_always status.Usage held held_now same = same
+kept_always status.ReadFault held held_now same = same
+kept_always status.WriteFault held held_now same = tt
+kept_always status.PrintFault held held_now same = same
+kept_always status.OutOfMemory held held_now same = tt
+kept_always status.Returned held held_now same = same
+kept_always status.Uncaught held held_now same = same
+kept_always status.InitFailed held held_now same = same
+kept_always status.Exit held held_now same = same
+kept_always status.Unmodelled held held_now same = same
+kept_always status.Unresolved held held_now same = same
+kept_always status.Broken held held_now same = same
+kept_always status.StepsSpent held held_now same = same
+kept_always status.ScriptEnds held held_now same = same
+
 -- ---- what was printed
 
 printed_nothing : (before now : Text) → now ≡ before → now ≡ option_map (λ text. text ++ []) before
@@ -201,8 +233,9 @@ usage_never =
     without_command (λ result. (result ≢ status.Done) × (result ≢ status.ReadFault) × (result ≢ status.WriteFault) × ((refusal : Refusal) → result ≢ status.Refused refusal))
     (λ d. cc, λ d. cc, λ d. cc, λ refusal d. cc) (λ d. cc, λ d. cc, λ d. cc, λ refusal d. cc) (λ d. cc, λ d. cc, λ d. cc, λ refusal d. cc)
 
-pub usage_kept : (held : Option Files) (result : Status) (before now : Text) → PrintsFor status.Usage usage_line result before now → KeepsShelf result held held
-usage_kept held = without_command (λ result. KeepsShelf result held held) refl refl tt
+-- it is no answer of a run
+pub usage_never_observed : (result : Status) (before now : Text) → PrintsFor status.Usage usage_line result before now → IsOfRun result → ⊥
+usage_never_observed = without_command (λ result. IsOfRun result → ⊥) (λ i. i) (λ i. i) (λ i. i)
 
 pub usage_printed : (held : Option Files) (result : Status) (before now : Text) → PrintsFor status.Usage usage_line result before now → Prints result None held before now
 usage_printed held result before now r = prints_for None held status.Usage usage_line result before now refl (λ p. p) r

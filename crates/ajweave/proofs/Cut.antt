@@ -12,7 +12,8 @@ use Rattle.std.proofs.lemmas.Cmp.{tied_itself}
 use Rattle.std.proofs.lemmas.List.{take_all, length-take}
 use Rattle.std.proofs.lemmas.Option.{none-some, same_Some}
 use Rattle.aj_outside.specs.Files.{byte_order, Files, AreFiles, names, file_at, is_under, names_under}
-use Rattle.jp_model.specs.Input.{is_input, inputs_in, is_big, IsFirst}
+use Rattle.jp_model.specs.Input.{is_big, IsFirst}
+use Rattle.ajweave.specs.Runs.{files_under}
 
 abbrev File : Type 0
 File = List ℕ × List ℕ
@@ -26,7 +27,8 @@ cut n f = (f.0, take n f.1)
 
 -- ---- the bytes
 
-big_same : (n : ℕ) (xs : List ℕ) → 16777216 < n → ltb 16777216 (length (take n xs)) ≡ ltb 16777216 (length xs)
+-- the first bytes of a file are too long where all are
+pub big_same : (n : ℕ) (xs : List ℕ) → 16777216 < n → ltb 16777216 (length (take n xs)) ≡ ltb 16777216 (length xs)
 big_same n xs big = elim (cases_lt 16777216 (length xs)) [
   | inl more ↦ lt-ltb 16777216 (length (take n xs)) (omega (arith, length-take n xs)) ∙ sym (lt-ltb 16777216 (length xs) more)
   | inr few ↦ le-ltb 16777216 (length (take n xs)) (omega (arith, length-take n xs)) ∙ sym (le-ltb 16777216 (length xs) few)
@@ -105,14 +107,14 @@ named name bytes = (name, bytes)
 abbrev read_at : ℕ → Files → List ℕ → List ℕ × List ℕ
 read_at n all name = (name, take n (unwrap_or (file_at all name) []))
 
-read_each : (n : ℕ) (folder : List ℕ) (all files : Files) → AllByRecursion (λ f. file_at all f.0 ≡ Some f.1) files → map (read_at n all) (filter is_input (filter (is_under folder) (names files))) ≡ map (cut n) (filter (λ f. is_under folder f.0 && is_input f.0) files)
-read_each n folder all [] h = refl
-read_each n folder all (f ∷ files) h =
-    ap (map (read_at n all)) (filter-cond is_input (is_under folder f.0) f.0 (filter (is_under folder) (names files)))
-    ∙ both (is_under folder f.0) (is_input f.0) (read_at n all) (cut n) f (filter is_input (filter (is_under folder) (names files))) (filter (λ f. is_under folder f.0 && is_input f.0) files)
+read_each : (test : List ℕ → Bool) (n : ℕ) (folder : List ℕ) (all files : Files) → AllByRecursion (λ f. file_at all f.0 ≡ Some f.1) files → map (read_at n all) (filter test (filter (is_under folder) (names files))) ≡ map (cut n) (files_under test folder files)
+read_each test n folder all [] h = refl
+read_each test n folder all (f ∷ files) h =
+    ap (map (read_at n all)) (filter-cond test (is_under folder f.0) f.0 (filter (is_under folder) (names files)))
+    ∙ both (is_under folder f.0) (test f.0) (read_at n all) (cut n) f (filter test (filter (is_under folder) (names files))) (files_under test folder files)
     (ap (λ (o : Option (List ℕ)). named f.0 (take n (unwrap_or o []))) h.0)
-    (read_each n folder all files h.1)
+    (read_each test n folder all files h.1)
 
--- the inputs, read by their names
-pub reads_inputs : (n : ℕ) (folder : List ℕ) (files : Files) → AreFiles files → map (λ name. (name, take n (unwrap_or (file_at files name) []))) (filter is_input (names_under folder files)) ≡ map (cut n) (inputs_in folder files)
-reads_inputs n folder files h = read_each n folder files files (each_found files h)
+-- the files that pass the test, read by their names
+pub reads_kept : (test : List ℕ → Bool) (n : ℕ) (folder : List ℕ) (files : Files) → AreFiles files → map (λ name. (name, take n (unwrap_or (file_at files name) []))) (filter test (names_under folder files)) ≡ map (cut n) (files_under test folder files)
+reads_kept test n folder files h = read_each test n folder files files (each_found files h)

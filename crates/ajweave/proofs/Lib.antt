@@ -1,9 +1,14 @@
 pub mod Answered
 pub mod Answering
 pub mod Cut
+pub mod Outcomes
 pub mod Reading
 pub mod Refusals
+pub mod Scripts
+pub mod Settling
+pub mod Running
 pub mod Weaving
 pub mod Writing
 pub mod Sizes
+pub mod Telling
 pub mod Worlds

@@ -8,14 +8,15 @@ use Rattle.std.proofs.lemmas.List.Elements.{filter-append, All-same, All-filter,
 use Rattle.std.proofs.lemmas.Option.{none-some, same_Some}
 use Rattle.aj_outside.specs.Files.{Files, AreFiles, file_at, is_under, names_under}
 use Rattle.aj_outside.specs.FileLaws.{file_at-names_under}
-use Rattle.jp_model.specs.Input.{is_input}
 use Rattle.weave_plan.specs.declared.planning.NamedFile.{NamedFile}
 use Rattle.weave_plan.specs.Plan.{files_of}
 use Rattle.ajweave.specs.declared.status.Refusal.{Refusal}
 use Rattle.ajweave.specs.declared.stop.Stop.{Stop}
 use Rattle.ajweave.specs.declared.stop.Stop.TheVariants as stop
 use Rattle.ajweave.specs.Answers.{most_names}
-use Rattle.ajweave.specs.Steps.{OnStop, IsRefusal, IsNoWriteStop, AreListed, IsMany, cut_at}
+use Rattle.ajweave.specs.Runs.{files_under}
+use Rattle.ajweave.specs.Steps.{OnStop, IsRefusal, IsNoWriteStop, AreListed, IsMany, cut_at, most_bytes}
+use Rattle.ajweave.proofs.Cut.{cut, reads_kept}
 
 -- ---- the list of names
 
@@ -73,30 +74,30 @@ abbrev record_of : NamedFile → List ℕ × List ℕ
 record_of f = (f.name, f.bytes.items)
 
 -- a name more, whose file was read
-pub named-more : (files : List NamedFile) (read : List (List ℕ)) (file : NamedFile) (name : List ℕ) → is_input name ≡ true → file.name ≡ name → map (λ input. input.name) files ≡ filter is_input read → map (λ input. input.name) (files ++ file ∷ []) ≡ filter is_input (read ++ name ∷ [])
-named-more files read file name is same so_far =
+pub named-more : (test : List ℕ → Bool) (files : List NamedFile) (read : List (List ℕ)) (file : NamedFile) (name : List ℕ) → test name ≡ true → file.name ≡ name → map (λ input. input.name) files ≡ filter test read → map (λ input. input.name) (files ++ file ∷ []) ≡ filter test (read ++ name ∷ [])
+named-more test files read file name is same so_far =
     map-append (λ (f : NamedFile). f.name) files (file ∷ []) ∙ ap (λ (ns : List (List ℕ)). ns ++ file.name ∷ []) so_far
-    ∙ ap (λ (n : List ℕ). filter is_input read ++ n ∷ []) same
-    ∙ sym (filter-append is_input read (name ∷ []) ∙ ap (λ (b : Bool). filter is_input read ++ cond b (name ∷ []) []) is)
+    ∙ ap (λ (n : List ℕ). filter test read ++ n ∷ []) same
+    ∙ sym (filter-append test read (name ∷ []) ∙ ap (λ (b : Bool). filter test read ++ cond b (name ∷ []) []) is)
 
-given_more : (all : Files) (files : List NamedFile) (read : List (List ℕ)) (file : NamedFile) (name : List ℕ) → is_input name ≡ true → record_of file ≡ cut_at all name → files_of files ≡ map (cut_at all) (filter is_input read) → files_of (files ++ file ∷ []) ≡ map (cut_at all) (filter is_input (read ++ name ∷ []))
-given_more all files read file name is same so_far =
+given_more : (test : List ℕ → Bool) (all : Files) (files : List NamedFile) (read : List (List ℕ)) (file : NamedFile) (name : List ℕ) → test name ≡ true → record_of file ≡ cut_at all name → files_of files ≡ map (cut_at all) (filter test read) → files_of (files ++ file ∷ []) ≡ map (cut_at all) (filter test (read ++ name ∷ []))
+given_more test all files read file name is same so_far =
     map-append record_of files (file ∷ []) ∙ ap (λ (fs : Files). fs ++ record_of file ∷ []) so_far
-    ∙ ap (λ (f : List ℕ × List ℕ). map (cut_at all) (filter is_input read) ++ f ∷ []) same
-    ∙ sym (ap (map (cut_at all)) (filter-append is_input read (name ∷ []) ∙ ap (λ (b : Bool). filter is_input read ++ cond b (name ∷ []) []) is) ∙ map-append (cut_at all) (filter is_input read) (name ∷ []))
+    ∙ ap (λ (f : List ℕ × List ℕ). map (cut_at all) (filter test read) ++ f ∷ []) same
+    ∙ sym (ap (map (cut_at all)) (filter-append test read (name ∷ []) ∙ ap (λ (b : Bool). filter test read ++ cond b (name ∷ []) []) is) ∙ map-append (cut_at all) (filter test read) (name ∷ []))
 
-pub given-more : (held held_mid : Option Files) (files : List NamedFile) (read : List (List ℕ)) (file : NamedFile) (name : List ℕ) → held_mid ≡ held → is_input name ≡ true → IfSome held_mid (λ all. record_of file ≡ cut_at all name) → IfSome held (λ all. files_of files ≡ map (cut_at all) (filter is_input read)) → IfSome held (λ all. files_of (files ++ file ∷ []) ≡ map (cut_at all) (filter is_input (read ++ name ∷ [])))
-given-more held held_mid files read file name same is one so_far =
+pub given-more : (test : List ℕ → Bool) (held held_mid : Option Files) (files : List NamedFile) (read : List (List ℕ)) (file : NamedFile) (name : List ℕ) → held_mid ≡ held → test name ≡ true → IfSome held_mid (λ all. record_of file ≡ cut_at all name) → IfSome held (λ all. files_of files ≡ map (cut_at all) (filter test read)) → IfSome held (λ all. files_of (files ++ file ∷ []) ≡ map (cut_at all) (filter test (read ++ name ∷ [])))
+given-more test held held_mid files read file name same is one so_far =
     by held (subst (λ (h : Option Files). IfSome h (λ all. record_of file ≡ cut_at all name)) same one) so_far
   where
-    by : (held : Option Files) → IfSome held (λ all. record_of file ≡ cut_at all name) → IfSome held (λ all. files_of files ≡ map (cut_at all) (filter is_input read)) → IfSome held (λ all. files_of (files ++ file ∷ []) ≡ map (cut_at all) (filter is_input (read ++ name ∷ [])))
+    by : (held : Option Files) → IfSome held (λ all. record_of file ≡ cut_at all name) → IfSome held (λ all. files_of files ≡ map (cut_at all) (filter test read)) → IfSome held (λ all. files_of (files ++ file ∷ []) ≡ map (cut_at all) (filter test (read ++ name ∷ [])))
     by None o s = tt
-    by (Some all) o s = given_more all files read file name is o s
+    by (Some all) o s = given_more test all files read file name is o s
 
 -- a name more, which is passed over
-pub passed_over : (read : List (List ℕ)) (name : List ℕ) → is_input name ≡ false → filter is_input (read ++ name ∷ []) ≡ filter is_input read
-passed_over read name isnt =
-    filter-append is_input read (name ∷ []) ∙ ap (λ (b : Bool). filter is_input read ++ cond b (name ∷ []) []) isnt ∙ append_nil_of (filter is_input read)
+pub passed_over : (test : List ℕ → Bool) (read : List (List ℕ)) (name : List ℕ) → test name ≡ false → filter test (read ++ name ∷ []) ≡ filter test read
+passed_over test read name isnt =
+    filter-append test read (name ∷ []) ∙ ap (λ (b : Bool). filter test read ++ cond b (name ∷ []) []) isnt ∙ append_nil_of (filter test read)
   where
     append_nil_of : (xs : List (List ℕ)) → xs ++ [] ≡ xs
     append_nil_of [] = refl
@@ -127,9 +128,22 @@ each-from_map P f [] h = tt
 each-from_map P f (x ∷ xs) h = (h.0, each-from_map P f xs h.1)
 
 -- the files that were read are under the folder, as the names that were listed
-pub inputs-under : (folder : List ℕ) (names : List (List ℕ)) (inputs slice : List NamedFile) → slice ≡ inputs → map (λ input. input.name) inputs ≡ filter is_input names → All (λ n. is_under folder n ≡ true) names → All (λ input. is_under folder input.name ≡ true) slice
-inputs-under folder names inputs slice same named under =
+pub inputs-under : (test : List ℕ → Bool) (folder : List ℕ) (names : List (List ℕ)) (inputs slice : List NamedFile) → slice ≡ inputs → map (λ input. input.name) inputs ≡ filter test names → All (λ n. is_under folder n ≡ true) names → All (λ input. is_under folder input.name ≡ true) slice
+inputs-under test folder names inputs slice same named under =
     let P : List ℕ → Type 0 = λ n. is_under folder n ≡ true in
     let Q : NamedFile → Type 0 = λ input. is_under folder input.name ≡ true in
-    let given = All-same P (map (λ input. input.name) inputs) (filter is_input names) named (All-filter is_input P names under) in
+    let given = All-same P (map (λ input. input.name) inputs) (filter test names) named (All-filter test P names under) in
     All-same Q slice inputs same (All-from_recursion Q inputs (each-from_map P (λ input. input.name) inputs (recursion_from_All P (map (λ input. input.name) inputs) given)))
+
+-- What was read are the first bytes of the files under the folder that pass the test, of which there are not too many.
+abbrev pub IsCut : (List ℕ → Bool) → List ℕ → Option Files → List NamedFile → Type 0
+IsCut test folder held inputs =
+    IfSome held (λ files. (length (names_under folder files) ≤ most_names) × (files_of inputs ≡ map (cut most_bytes) (files_under test folder files)))
+
+pub IsCut-from_reading : (test : List ℕ → Bool) (folder : List ℕ) (held held_mid : Option Files) (names : List (List ℕ)) (inputs : List NamedFile) → held_mid ≡ held → IfSome held (λ files. AreListed folder files names) → IfSome held_mid (λ files. files_of inputs ≡ map (cut_at files) (filter test names)) → IsCut test folder held inputs
+IsCut-from_reading test folder held held_mid names inputs same listed given =
+    by held listed (subst (λ (h : Option Files). IfSome h (λ files. files_of inputs ≡ map (cut_at files) (filter test names))) same given)
+  where
+    by : (held : Option Files) → IfSome held (λ files. AreListed folder files names) → IfSome held (λ files. files_of inputs ≡ map (cut_at files) (filter test names)) → IsCut test folder held inputs
+    by None l g = tt
+    by (Some files) l g = (l.few, g ∙ ap (λ (ns : List (List ℕ)). map (cut_at files) (filter test ns)) l.all ∙ reads_kept test most_bytes folder files l.ordered)

@@ -12,7 +12,7 @@ use Rattle.jp_model.specs.Input.{IsNotBuilt, inputs_in}
 use Rattle.weave_plan.specs.Faults.{IsFirstFault}
 use Rattle.weave_plan.specs.Worlds.{classes_of}
 use Rattle.ajweave.specs.declared.status.Refusal.{Refusal}
-use Rattle.ajweave.specs.declared.status.Refusal.TheVariants.{ManyFiles, BigFile, Class, World, NotBuilt}
+use Rattle.ajweave.specs.declared.status.Refusal.TheVariants.{ManyFiles, BigFile, NoScript, Script, Class, World, NotBuilt, NoEntry}
 use Rattle.ajweave.specs.Answers.{most_names, in_folder, IsRefused, IsValid}
 use Rattle.ajweave.proofs.Worlds.{first_fault-same, sound-never_faulty}
 
@@ -73,28 +73,46 @@ IsRefused-same folder files ManyFiles (BigFile b) g h = absurd (over _ h.0 g)
 IsRefused-same folder files ManyFiles (Class b f) g h = absurd (over _ h.0.few g)
 IsRefused-same folder files ManyFiles (World f) g h = absurd (over _ h.0.few g)
 IsRefused-same folder files ManyFiles (NotBuilt b) g h = absurd (over _ h.0.few g)
+IsRefused-same folder files ManyFiles (NoScript b) g h = absurd h
+IsRefused-same folder files ManyFiles (Script b line) g h = absurd h
+IsRefused-same folder files ManyFiles (NoEntry b) g h = absurd h
 IsRefused-same folder files (BigFile a) ManyFiles g h = absurd (over _ g.0 h)
 IsRefused-same folder files (BigFile a) (BigFile b) g h =
     ap (λ (n : List ℕ). BigFile n) (in_folder-same folder a b (same_name (in_folder folder a) (in_folder folder b) g.1.bytes h.1.bytes (sym g.1.found ∙ h.1.found)))
 IsRefused-same folder files (BigFile a) (Class b f) g h = absurd (no_file _ _ h.0.small g.1.found)
 IsRefused-same folder files (BigFile a) (World f) g h = absurd (no_file _ _ h.0.small g.1.found)
 IsRefused-same folder files (BigFile a) (NotBuilt b) g h = absurd (no_file _ _ h.0.small g.1.found)
+IsRefused-same folder files (BigFile a) (NoScript b) g h = absurd h
+IsRefused-same folder files (BigFile a) (Script b line) g h = absurd h
+IsRefused-same folder files (BigFile a) (NoEntry b) g h = absurd h
 IsRefused-same folder files (Class a e) ManyFiles g h = absurd (over _ g.0.few h)
 IsRefused-same folder files (Class a e) (BigFile b) g h = absurd (no_file _ _ g.0.small h.1.found)
 IsRefused-same folder files (Class a e) (Class b f) g h = class-same folder (inputs_in folder files) a b e f g.1 h.1
 IsRefused-same folder files (Class a e) (World f) g h = absurd (no_file _ _ h.1.read g.1.first)
 IsRefused-same folder files (Class a e) (NotBuilt b) g h = absurd (no_file _ _ h.1.sound.read g.1.first)
+IsRefused-same folder files (Class a e) (NoScript b) g h = absurd h
+IsRefused-same folder files (Class a e) (Script b line) g h = absurd h
+IsRefused-same folder files (Class a e) (NoEntry b) g h = absurd h
 IsRefused-same folder files (World e) ManyFiles g h = absurd (over _ g.0.few h)
 IsRefused-same folder files (World e) (BigFile b) g h = absurd (no_file _ _ g.0.small h.1.found)
 IsRefused-same folder files (World e) (Class b f) g h = absurd (no_file _ _ g.1.read h.1.first)
 IsRefused-same folder files (World e) (World f) g h = ap (λ (w : WorldFault). World w) (first_fault-same (classes_of (inputs_in folder files)) e f g.1.first h.1.first)
 IsRefused-same folder files (World e) (NotBuilt b) g h = absurd (sound-never_faulty (classes_of (inputs_in folder files)) e h.1.sound.world g.1.first)
+IsRefused-same folder files (World e) (NoScript b) g h = absurd h
+IsRefused-same folder files (World e) (Script b line) g h = absurd h
+IsRefused-same folder files (World e) (NoEntry b) g h = absurd h
 IsRefused-same folder files (NotBuilt a) ManyFiles g h = absurd (over _ g.0.few h)
 IsRefused-same folder files (NotBuilt a) (BigFile b) g h = absurd (no_file _ _ g.0.small h.1.found)
 IsRefused-same folder files (NotBuilt a) (Class b f) g h = absurd (no_file _ _ g.1.sound.read h.1.first)
 IsRefused-same folder files (NotBuilt a) (World f) g h = absurd (sound-never_faulty (classes_of (inputs_in folder files)) f g.1.sound.world h.1.first)
 IsRefused-same folder files (NotBuilt a) (NotBuilt b) g h =
     ap (λ (n : List ℕ). NotBuilt n) (in_folder-same folder a b (not_built-same (inputs_in folder files) (in_folder folder a) (in_folder folder b) g.1.first h.1.first))
+IsRefused-same folder files (NotBuilt a) (NoScript b) g h = absurd h
+IsRefused-same folder files (NotBuilt a) (Script b line) g h = absurd h
+IsRefused-same folder files (NotBuilt a) (NoEntry b) g h = absurd h
+IsRefused-same folder files (NoScript a) b g h = absurd g
+IsRefused-same folder files (Script a line) b g h = absurd g
+IsRefused-same folder files (NoEntry a) b g h = absurd g
 
 -- a valid input is not refused
 pub IsValid-never_refused : (folder : List ℕ) (files : Files) (refusal : Refusal) → IsValid folder files → IsRefused folder files refusal → ⊥
@@ -104,3 +122,6 @@ IsValid-never_refused folder files (Class name fault) v h = no_file _ _ v.taken.
 IsValid-never_refused folder files (World fault) v h = sound-never_faulty (classes_of (inputs_in folder files)) fault v.taken.sound.world h.1.first
 IsValid-never_refused folder files (NotBuilt name) v h =
     h.1.first.first.refused (v.taken.built h.1.first.place (in_folder folder name, h.1.first.bytes) h.1.first.first.stands)
+IsValid-never_refused folder files (NoScript name) v h = h
+IsValid-never_refused folder files (Script name line) v h = h
+IsValid-never_refused folder files (NoEntry word) v h = h

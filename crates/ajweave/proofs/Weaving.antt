@@ -14,13 +14,14 @@ use Rattle.weave_plan.specs.Faults.{IsFirstFault, HaveFirstFault, AreSound, IsFi
 use Rattle.weave_plan.specs.declared.planning.NamedFile.{NamedFile}
 use Rattle.weave_plan.specs.Plan.{IsPlan, files_of}
 use Rattle.ajweave.specs.declared.status.Refusal.{Refusal}
-use Rattle.ajweave.specs.declared.status.Refusal.TheVariants.{ManyFiles, BigFile, Class, World, NotBuilt}
+use Rattle.ajweave.specs.declared.status.Refusal.TheVariants.{ManyFiles, BigFile, NoScript, Script, Class, World, NotBuilt, NoEntry}
 use Rattle.ajweave.specs.declared.stop.Stop.{Stop}
 use Rattle.ajweave.specs.declared.stop.Stop.TheVariants as stop
 use Rattle.ajweave.specs.Words.{Folders}
 use Rattle.ajweave.specs.Answers.{most_names, in_folder, ReadFailed, AreReadable, IsRefused, IsValid, WritesWeaving, CommandedTo, CommandedSome, PutsSome}
-use Rattle.ajweave.specs.Steps.{OnStop, IsRefusal, IsReadStop, IsWriteStop, IsNoWriteStop, most_bytes, AreListed, IsMany, IsBig, IsInputRefusal, cut_at, Ends, PutsSomeTold}
-use Rattle.ajweave.proofs.Cut.{cut, IsFirst-from_cut, whole-from_cut, reads_inputs}
+use Rattle.ajweave.specs.Steps.{OnStop, IsRefusal, IsReadStop, IsWriteStop, IsNoWriteStop, most_bytes, IsMany, IsBig, IsInputRefusal, Ends, PutsSomeTold}
+use Rattle.ajweave.proofs.Cut.{cut, IsFirst-from_cut, whole-from_cut}
+use Rattle.ajweave.proofs.Reading.{IsCut}
 
 abbrev record_of : NamedFile → List ℕ × List ℕ
 record_of f = (f.name, f.bytes.items)
@@ -141,20 +142,21 @@ reading_ends folders held held_now stop.Write h same = absurd h
 reading_ends folders held held_now (stop.Refused refusal) h same = absurd h
 reading_ends folders held held_now stop.Memory h same = inl same
 
+-- ---- too many names
+
+-- too many names are one refusal
+pub many_stop : {T : Type 0} (count : ℕ) (r : Result T Stop) → OnStop r (IsRefusal (IsMany count)) → OnStop r (IsNoWriteStop (λ refusal. refusal ≡ ManyFiles))
+many_stop count (Ok x) h = tt
+many_stop count (Err stop.Read) h = tt
+many_stop count (Err stop.Write) h = h
+many_stop count (Err (stop.Refused refusal)) h = h.0
+many_stop count (Err stop.Memory) h = tt
+
 -- ---- what was read
 
 -- what was read are the first bytes of the inputs, of which there are not too many
 abbrev pub IsInput : List ℕ → Option Files → List NamedFile → Type 0
-IsInput folder held inputs =
-    IfSome held (λ files. (length (names_under folder files) ≤ most_names) × (files_of inputs ≡ map (cut most_bytes) (inputs_in folder files)))
-
-pub IsInput-from_reading : (folder : List ℕ) (held held_mid : Option Files) (names : List (List ℕ)) (inputs : List NamedFile) → held_mid ≡ held → IfSome held (λ files. AreListed folder files names) → IfSome held_mid (λ files. files_of inputs ≡ map (cut_at files) (filter is_input names)) → IsInput folder held inputs
-IsInput-from_reading folder held held_mid names inputs same listed given =
-    by held listed (subst (λ (h : Option Files). IfSome h (λ files. files_of inputs ≡ map (cut_at files) (filter is_input names))) same given)
-  where
-    by : (held : Option Files) → IfSome held (λ files. AreListed folder files names) → IfSome held (λ files. files_of inputs ≡ map (cut_at files) (filter is_input names)) → IsInput folder held inputs
-    by None l g = tt
-    by (Some files) l g = (l.few, g ∙ ap (λ (ns : List (List ℕ)). map (cut_at files) (filter is_input ns)) l.all ∙ reads_inputs most_bytes folder files l.ordered)
+IsInput = IsCut is_input
 
 big : 16777216 < most_bytes
 big = omega arith
@@ -172,6 +174,9 @@ big_ends folders held inputs (BigFile name) i h = big_whole folders held inputs 
 big_ends folders held inputs (Class name fault) i h = absurd h
 big_ends folders held inputs (World fault) i h = absurd h
 big_ends folders held inputs (NotBuilt name) i h = absurd h
+big_ends folders held inputs (NoScript name) i h = absurd h
+big_ends folders held inputs (Script name line) i h = absurd h
+big_ends folders held inputs (NoEntry word) i h = absurd h
 
 pub sizes_end : (folders : Folders) (held held_now : Option Files) (inputs : List NamedFile) (fault : Stop) → IsInput folders.input held inputs → IsRefusal (IsBig folders.input (files_of inputs)) fault → held_now ≡ held → Ends (Err fault) folders held held_now
 sizes_end folders held held_now inputs stop.Read i h same = absurd h
@@ -204,6 +209,9 @@ refused_whole folders (Some files) inputs (BigFile name) w h = absurd h
 refused_whole folders (Some files) inputs (Class name fault) w h = (w.0, subst (λ (fs : Files). IsFirstFault fs (in_folder folders.input name) fault) w.1 h)
 refused_whole folders (Some files) inputs (World fault) w h = (w.0, subst (λ (fs : Files). HaveFirstFault fs fault) w.1 h)
 refused_whole folders (Some files) inputs (NotBuilt name) w h = (w.0, subst (λ (fs : Files). IsFirstUnbuilt fs (in_folder folders.input name)) w.1 h)
+refused_whole folders (Some files) inputs (NoScript name) w h = absurd h
+refused_whole folders (Some files) inputs (Script name line) w h = absurd h
+refused_whole folders (Some files) inputs (NoEntry word) w h = absurd h
 
 pub refusal_ends : (folders : Folders) (held held_now : Option Files) (inputs : List NamedFile) (fault : Stop) → IsWhole folders.input held inputs → IsRefusal (IsInputRefusal folders.input (files_of inputs)) fault → held_now ≡ held → Ends (Err fault) folders held held_now
 refusal_ends folders held held_now inputs stop.Read w h same = absurd h

@@ -19,12 +19,21 @@ use Rattle.ajweave.specs.Words.{Folders, usage_line, refusal_line}
 -- the number of an answer, with which the process ends
 abbrev pub code_of : Status → ℕ
 code_of status.Done = 0
+code_of status.Returned = 0
 code_of (status.Refused refusal) = 1
 code_of status.Usage = 2
 code_of status.ReadFault = 3
 code_of status.WriteFault = 4
 code_of status.PrintFault = 5
 code_of status.OutOfMemory = 7
+code_of status.Uncaught = 10
+code_of status.InitFailed = 11
+code_of status.Exit = 12
+code_of status.Unmodelled = 13
+code_of status.Unresolved = 14
+code_of status.Broken = 15
+code_of status.StepsSpent = 16
+code_of status.ScriptEnds = 17
 
 -- ---- faults
 
@@ -74,6 +83,8 @@ IsRefused folder files (refusal.World fault) =
     AreReadable folder files × HaveFirstFault (inputs_in folder files) fault
 IsRefused folder files (refusal.NotBuilt name) =
     AreReadable folder files × IsFirstUnbuilt (inputs_in folder files) (in_folder folder name)
+-- no weaving's
+IsRefused folder files _ = ⊥
 
 -- the input is valid: none of these holds
 pub record IsValid (folder : List ℕ) (files : Files) : Type 0 where
@@ -162,7 +173,13 @@ KeepsShelf _ before now = now ≡ before
 
 -- ---- what is printed
 
--- the text that an answer prints
+-- The text was printed whole and the answer given, or some of it and the answer is another.
+abbrev pub PrintsFor : Status → List ℕ → Status → Option (List ℕ) → Option (List ℕ) → Type 0
+PrintsFor answer text result before now =
+    ((result ≡ answer) × (now ≡ option_map (λ written. written ++ text) before))
+    ⊎ (((result ≡ status.PrintFault) ⊎ (result ≡ status.OutOfMemory)) × ((now ≡ before) ⊎ AppendsPrefix text before now))
+
+-- the text that an answer prints, but for those of a run
 abbrev pub printed_by : Status → List ℕ
 printed_by (status.Refused refusal) = refusal_line refusal
 printed_by status.Usage = usage_line

@@ -1,19 +1,32 @@
 -- What the steps of a run promise one another.
-use Rattle.std.specs.Prelude.{◌≡◌, ℕ, ◌<◌, ◌≤◌, ◌⊎◌, List, [], ◌++◌, length, take, Option, Some, None, Result, Ok, Err, IfSome}
+use Rattle.std.specs.Prelude.{◌≡◌, ℕ, ◌<◌, ◌≤◌, ◌⊎◌, Bool, List, [], length, map, take, Option, Some, None, Result, Ok, Err, IfSome}
 use Rattle.std.specs.Option.{option_map, unwrap_or}
-use Rattle.aj_outside.specs.Files.{Files, AreFiles, file_at, names_under, AppendsPrefix}
-use Rattle.jp_model.specs.Input.{IsFirst, is_big}
+use Rattle.aj_outside.specs.Files.{Files, AreFiles, file_at, names_under}
+use Rattle.class_file.specs.declared.types.ClassFile.{ClassFile}
+use Rattle.jp_model.specs.Input.{IsFirst, is_big, is_input, is_class_file}
+use Rattle.machine_values.specs.Observed.{machine_event, machine_ending}
+use Rattle.run_driver.specs.declared.report.Report.{Report}
+use Rattle.run_lines.specs.CommandWords.{RunCommand}
+use Rattle.run_lines.specs.declared.command.RunWords.{RunWords}
+use Rattle.run_lines.specs.declared.entry.EntryWords.{EntryWords}
+use Rattle.run_plan.specs.Running as plan
+use Rattle.run_plan.specs.declared.fault.RunFault.TheVariants as faults
 use Rattle.weave_plan.specs.Faults.{IsFirstFault, HaveFirstFault, IsFirstUnbuilt}
 use Rattle.aj_outside.specs.declared.shelves.ShelfFault.{ShelfFault}
 use Rattle.aj_outside.specs.declared.shelves.ShelfFault.TheVariants as shelf_fault
 use Rattle.ajweave.specs.declared.stop.Stop.{Stop}
 use Rattle.ajweave.specs.declared.stop.Stop.TheVariants as stop
 use Rattle.ajweave.specs.declared.status.Refusal.{Refusal}
-use Rattle.ajweave.specs.declared.status.Refusal.TheVariants.{ManyFiles, BigFile, Class, World, NotBuilt}
+use Rattle.ajweave.specs.declared.status.Refusal.TheVariants.{ManyFiles, BigFile, NoScript, Class, World, NotBuilt, NoEntry}
 use Rattle.ajweave.specs.declared.status.Status.{Status}
 use Rattle.ajweave.specs.declared.status.Status.TheVariants as status
+use Rattle.ajweave.specs.declared.input.Kept.{Kept}
+use Rattle.ajweave.specs.declared.input.Kept.TheVariants as kept
+use Rattle.ajweave.specs.declared.script.ScriptFile.{ScriptFile}
+use Rattle.ajweave.specs.declared.script.ScriptFile.TheVariants as scripts
 use Rattle.ajweave.specs.Words.{Folders, refusal_line}
-use Rattle.ajweave.specs.Answers.{most_names, in_folder, IsRefused, IsValid, WritesWeaving, CommandedTo, CommandedSome, PutsSome}
+use Rattle.ajweave.specs.Answers.{most_names, in_folder, IsRefused, IsValid, WritesWeaving, CommandedTo, CommandedSome, PutsSome, PrintsFor}
+use Rattle.ajweave.specs.Runs.{Seen, files_under, Refused, Ran, ScriptRead, NotTaken, Answers, ReadsFile, ComesTo, answer_of_ending, seen_text}
 
 -- ---- why a step stopped
 
@@ -84,6 +97,11 @@ abbrev pub IsBig : List ℕ → Files → Refusal → Type 0
 IsBig folder inputs (BigFile name) = IsFirst is_big inputs (in_folder folder name)
 IsBig folder inputs _ = ⊥
 
+-- which of the files under a folder are read: those of classes and of aspects, or those of classes alone
+abbrev pub keeps : Kept → List ℕ → Bool
+keeps kept.Inputs = is_input
+keeps kept.Classes = is_class_file
+
 -- ---- planning
 
 -- the refusal is that of these inputs, none of which is too long
@@ -92,6 +110,19 @@ IsInputRefusal folder inputs (Class name fault) = IsFirstFault inputs (in_folder
 IsInputRefusal folder inputs (World fault) = HaveFirstFault inputs fault
 IsInputRefusal folder inputs (NotBuilt name) = IsFirstUnbuilt inputs (in_folder folder name)
 IsInputRefusal folder inputs _ = ⊥
+
+-- it is one of the refusals that a weaving has
+abbrev pub IsOfWeaving : Refusal → Type 0
+IsOfWeaving ManyFiles = Unit {0}
+IsOfWeaving (BigFile name) = Unit {0}
+IsOfWeaving (Class name fault) = Unit {0}
+IsOfWeaving (World fault) = Unit {0}
+IsOfWeaving (NotBuilt name) = Unit {0}
+IsOfWeaving _ = ⊥
+
+-- it stopped at a refusal that a weaving has, or in another way
+abbrev pub IsWeavingStop : Stop → Type 0
+IsWeavingStop fault = MatchStop fault IsOfWeaving (Unit {0}) (Unit {0}) (Unit {0})
 
 -- ---- the ends of a run, but for what is printed
 
@@ -111,16 +142,105 @@ PutsSomeTold outputs (Some before) after = PutsSome outputs before after
 
 -- ---- what is printed
 
--- The text was printed whole and the answer given, or some of it and the answer is another.
-abbrev pub PrintsFor : Status → List ℕ → Status → Option (List ℕ) → Option (List ℕ) → Type 0
-PrintsFor answer text result before now =
-    ((result ≡ answer) × (now ≡ option_map (λ written. written ++ text) before))
-    ⊎ (((result ≡ status.PrintFault) ⊎ (result ≡ status.OutOfMemory)) × ((now ≡ before) ⊎ AppendsPrefix text before now))
+-- The answer to why a command stopped, and what was printed.
+abbrev pub ReportsStop : Stop → Status → Option (List ℕ) → Option (List ℕ) → Type 0
+ReportsStop fault result before now =
+    MatchStop fault (λ refusal. PrintsFor (status.Refused refusal) (refusal_line refusal) result before now)
+    ((result ≡ status.ReadFault) × (now ≡ before)) ((result ≡ status.WriteFault) × (now ≡ before))
+    ((result ≡ status.OutOfMemory) × (now ≡ before))
 
 -- The answer to how a command ended, and what was printed.
 abbrev pub Reports : Result (Unit {0}) Stop → Status → Option (List ℕ) → Option (List ℕ) → Type 0
 Reports (Ok x) result before now = (result ≡ status.Done) × (now ≡ before)
-Reports (Err fault) result before now =
-    MatchStop fault (λ refusal. PrintsFor (status.Refused refusal) (refusal_line refusal) result before now)
-    ((result ≡ status.ReadFault) × (now ≡ before)) ((result ≡ status.WriteFault) × (now ≡ before))
-    ((result ≡ status.OutOfMemory) × (now ≡ before))
+Reports (Err fault) result before now = ReportsStop fault result before now
+
+-- ---- a run of classes
+
+-- the relation holds of this and of no other
+pub record Settles {T : Type 0} (P : T → Type 0) (x : T) : Type 0 where
+  pub holds : P x
+  pub only : (other : T) → P other → other ≡ x
+
+-- the run that the words of the command say
+abbrev pub run_of : RunWords → RunCommand
+run_of words = record {
+  input = words.input.now;
+  word = words.word.now;
+  entry = words.entry;
+  steps = words.steps;
+  script = option_map (λ name. name.now) words.script;
+}
+
+-- what is observed, as a report has it
+abbrev pub seen_of : Report → Seen
+seen_of report = record { events = map machine_event report.events.items; ending = option_map machine_ending report.ending }
+
+-- what is known of the file of a script: none is named, there is none of the name, or these are its first bytes
+abbrev pub IsScriptFile : Option (List ℕ) → Files → ScriptFile → Type 0
+IsScriptFile script files scripts.Unnamed = script ≡ None
+IsScriptFile script files (scripts.Missing name) = (script ≡ Some name) × (file_at files name ≡ None)
+IsScriptFile script files (scripts.Found file) =
+    (script ≡ Some file.name) × ((bytes : List ℕ) × (file_at files file.name ≡ Some bytes) × (file.bytes.items ≡ take most_bytes bytes))
+
+-- a script is named, and the shelf has no file of its name
+abbrev pub IsMissingFile : ScriptFile → Type 0
+IsMissingFile (scripts.Missing name) = Unit {0}
+IsMissingFile _ = ⊥
+
+abbrev pub IsMissing : Result ScriptFile Stop → Type 0
+IsMissing (Ok file) = IsMissingFile file
+IsMissing (Err fault) = ⊥
+
+-- all was read, but there is no file of the script's name
+abbrev pub FindsNoScript : {A : Type 0} → Result (A × ScriptFile) Stop → Type 0
+FindsNoScript (Ok found) = IsMissingFile found.1
+FindsNoScript (Err fault) = ⊥
+
+-- What was read are the first bytes of the class files under the folder, of which there are not too many, and of the script.
+pub record WereRead (folder : List ℕ) (script : Option (List ℕ)) (files inputs : Files) (file : ScriptFile) : Type 0 where
+  pub few : length (names_under folder files) ≤ most_names
+  pub cut : inputs ≡ map cut_file (files_under is_class_file folder files)
+  pub found : IsScriptFile script files file
+
+-- what such a file is read as
+abbrev pub ReadsScriptFile : ScriptFile → ScriptRead → Type 0
+ReadsScriptFile scripts.Unnamed read = read ≡ Answers []
+ReadsScriptFile (scripts.Missing name) read = read ≡ NotTaken (NoScript name)
+ReadsScriptFile (scripts.Found file) read = ReadsFile file.name file.bytes.items read
+
+-- the refusal is that of the first class file that is none
+abbrev pub IsClassRefusal : List ℕ → Files → Refusal → Type 0
+IsClassRefusal folder inputs (Class name fault) = IsFirstFault inputs (in_folder folder name) fault
+IsClassRefusal folder inputs _ = ⊥
+
+-- the refusal is that of the classes as a world, or that of an entry that no method takes
+abbrev pub IsRunRefusal : List ClassFile → EntryWords → List ℕ → Refusal → Type 0
+IsRunRefusal classes entry word (World fault) = plan.IsRefused classes entry (faults.World fault)
+IsRunRefusal classes entry word (NoEntry name) = (name ≡ word) × plan.IsRefused classes entry faults.NoEntry
+IsRunRefusal classes entry word _ = ⊥
+
+-- What the command comes to, by how it ended: where the files are told, this is the one thing that it comes to of them.
+abbrev pub RunEnds : Result Report Stop → RunCommand → Option Files → Type 0
+RunEnds (Ok report) run held = IfSome held (λ files. Settles (ComesTo run files) (Ran (seen_of report)))
+RunEnds (Err fault) run held =
+    MatchStop fault (λ refusal. IfSome held (λ files. Settles (ComesTo run files) (Refused refusal))) (Unit {0}) ⊥ (Unit {0})
+
+-- whatever the files are of which this was read, the command ends so
+abbrev pub EndsOfRead : Result Report Stop → RunCommand → Files → ScriptFile → Type 0
+EndsOfRead result run inputs file = (files : Files) → WereRead run.input run.script files inputs file → RunEnds result run (Some files)
+
+-- it ended at a script whose file is missing
+abbrev pub IsNoScript : Result Report Stop → Type 0
+IsNoScript result = (name : List ℕ) × (result ≡ Err (stop.Refused (NoScript name)))
+
+-- it ended in a way that it may where the file of a script alone is missing
+abbrev pub EndsMissing : Result Report Stop → Type 0
+EndsMissing result =
+    ((name : List ℕ) × ((result ≡ Err (stop.Refused (BigFile name))) ⊎ (result ≡ Err (stop.Refused (NoScript name)))))
+    ⊎ (result ≡ Err stop.Memory)
+
+-- The answer to how a run ended, and what was printed.
+abbrev pub ReportsRun : Result Report Stop → Status → Option (List ℕ) → Option (List ℕ) → Type 0
+ReportsRun (Ok report) result before now =
+    PrintsFor (answer_of_ending (option_map machine_ending report.ending)) (seen_text (seen_of report)) result before now
+ReportsRun (Err fault) result before now = ReportsStop fault result before now

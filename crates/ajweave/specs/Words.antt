@@ -27,7 +27,7 @@ abbrev pub is_word : List ℕ → Bool
 is_word [] = false
 is_word (b ∷ text) = not (b == 45)
 
--- The one command that is built: `weave IN OUT`.
+-- The command `weave IN OUT`. A run has words of its own (`run_lines/specs/CommandWords`).
 abbrev pub command_of : List (List ℕ) → Option Folders
 command_of (command ∷ input ∷ output ∷ []) =
     if bytes_eq command (codes "weave") && (is_word input && is_word output)
@@ -77,7 +77,10 @@ refusal_words refusal.ManyFiles = codes "many-files"
 refusal_words (refusal.BigFile name) = refused_name name (codes "big-file")
 refusal_words (refusal.Class name why) = refused_name name (fault_words why)
 refusal_words (refusal.World why) = world_words why
+refusal_words (refusal.NoScript name) = refused_name name (codes "no-script")
+refusal_words (refusal.Script name line) = refused_name name (codes "script " ++ decimal line)
 refusal_words (refusal.NotBuilt name) = refused_name name (codes "not-built")
+refusal_words (refusal.NoEntry word) = refused_name word (codes "no-entry")
 
 abbrev pub refusal_line : Refusal → List ℕ
 refusal_line refusal = codes "refused: " ++ (refusal_words refusal ++ 10 ∷ [])

@@ -3,22 +3,33 @@ ghost use Rattle.std.specs.Prelude.{◌≡◌, ◌↔◌, ◌<◌, ℕ, List, ma
 ghost use Rattle.std.specs.List.{filter, find, All};
 ghost use Rattle.aj_outside.specs.Counts.{ComesWithRise, last_count};
 ghost use Rattle.aj_outside.specs.Files.{is_under, file_at, names_under};
-ghost use Rattle.jp_model.specs.Input.{is_input, is_big};
+ghost use Rattle.jp_model.specs.Input.{is_big};
+ghost use Rattle.weave_plan.specs.Faults.{AreUnread};
 ghost use Rattle.weave_plan.specs.Plan.{files_of};
 ghost use Rattle.ajweave.specs.Answers.{ReadFailed, most_names};
-ghost use Rattle.ajweave.specs.Steps.{OnStop, IsRefusal, IsReadStop, IsNoWriteStop, AreListed, IsMany, IsBig, IsNamed, cut_at};
+ghost use Rattle.ajweave.specs.Steps.{OnStop, IsRefusal, IsReadStop, IsNoWriteStop, AreListed, IsMany, IsBig, IsNamed, IsClassRefusal, cut_at, keeps};
 
 use crate::status::Refusal;
 use crate::stop::{Stop, name_within};
 use aj_outside::{Name, Shelf, ShelfFault};
+use class_format::ClassFault;
 use std::alloc::Global;
-use weave_plan::NamedFile;
+use weave_plan::{NamedFile, ReadFault};
 
 /// How many names a folder may have.
 const MOST_NAMES: usize = 65_536;
 
 /// How many bytes a file may have.
-const MOST_BYTES: usize = 16_777_216;
+pub(crate) const MOST_BYTES: usize = 16_777_216;
+
+/// Which of the files of a folder are read.
+#[derive(Clone, Copy, Debug)]
+pub(crate) enum Kept {
+    /// Those of classes and of aspects.
+    Inputs,
+    /// Those of classes.
+    Classes,
+}
 
 /// The names under a folder, in byte order, of which there may be at most 65,536.
 ///
@@ -32,6 +43,7 @@ pub(crate) fn listed<S: Shelf>(
     ensures all { IfOk result (λ names. IfSome (S.held shelf.old) (λ files. AreListed folder.now files names.items)) }
     ensures under { IfOk result (λ names. All (λ name. is_under folder.now name ≡ true) names.items) }
     ensures stopped { OnStop result (IsNoWriteStop (λ refusal. IfSome (S.held shelf.old) (λ files. IsMany (length (names_under folder.now files)) refusal))) }
+    ensures many { OnStop result (IsNoWriteStop (λ refusal. refusal ≡ Refusal.ManyFiles)) }
     ensures failed { ComesWithRise (result ≡ Err Stop.Read) (S.faults shelf.old) (S.faults shelf.new) }
     ensures writes { S.write_faults shelf.new ≡ S.write_faults shelf.old }
     ensures reads { S.missing shelf.new ≡ S.missing shelf.old }
@@ -54,28 +66,30 @@ fn at_most(names: Vec<Name>) -> Result<Vec<Name>, Stop>
     Ok(names)
 }
 
-/// The files of classes and aspects among these names, in the same order.
+/// The files that are kept among these names, in the same order.
 ///
 /// # Errors
 /// `Read` where the shelf fails or a file is gone, and `Memory`.
 pub(crate) fn read_inputs<S: Shelf>(
     alloc: Global,
+    kept: Kept,
     names: Vec<Name>,
     shelf: &mut S,
 ) -> Result<Vec<NamedFile>, Stop>
     requires held { IfSome (S.held shelf.old) (λ files. All (λ name. IsSome (file_at files name)) names.items) }
     requires can_read { S.faults shelf.old < last_count }
     requires can_miss { S.missing shelf.old < last_count }
-    ensures given { IfOk result (λ inputs. IfSome (S.held shelf.old) (λ files. files_of inputs.items ≡ map (cut_at files) (filter is_input names.items))) }
-    ensures named { IfOk result (λ inputs. map (λ input. input.name) inputs.items ≡ filter is_input names.items) }
+    ensures given { IfOk result (λ inputs. IfSome (S.held shelf.old) (λ files. files_of inputs.items ≡ map (cut_at files) (filter (keeps kept) names.items))) }
+    ensures named { IfOk result (λ inputs. map (λ input. input.name) inputs.items ≡ filter (keeps kept) names.items) }
     ensures stopped { OnStop result IsReadStop }
     ensures failed { (result ≡ Err Stop.Read) ↔ ReadFailed (S.held shelf.old) (S.faults shelf.old) (S.faults shelf.new) (S.missing shelf.old) (S.missing shelf.new) }
+    ensures still { OnOk result ((S.faults shelf.new ≡ S.faults shelf.old) × (S.missing shelf.new ≡ S.missing shelf.old)) }
     ensures writes { S.write_faults shelf.new ≡ S.write_faults shelf.old }
     ensures kept { S.held shelf.new ≡ S.held shelf.old }
 {
     let mut files = Vec::new(alloc);
     for name in names {
-        if !is_input(name.as_str()) {
+        if !kept.keeps(name.as_str()) {
             continue;
         }
         let file = read_input(alloc, name, shelf)?;
@@ -131,6 +145,24 @@ fn too_big(alloc: Global, folder: &str, name: &Name) -> Stop
     }
 }
 
+/// The refusal of the class file at a place, with its first fault. It is `Memory` where that ran out.
+pub(crate) fn no_class(
+    alloc: Global,
+    folder: &str,
+    files: &[NamedFile],
+    place: usize,
+    fault: ClassFault,
+) -> Stop
+    requires under { All (λ file. is_under folder.now file.name ≡ true) files.now }
+    requires first { AreUnread (files_of files.now) (ReadFault.Class place fault) }
+    ensures { IsRefusal (IsClassRefusal folder.now (files_of files.now)) result }
+{
+    match name_within(alloc, folder, &files[place].name) {
+        Ok(name) => Stop::Refused(Refusal::Class(name, fault)),
+        Err(_) => Stop::Memory,
+    }
+}
+
 /// Adds a file to the last ones.
 fn push_file(files: &mut Vec<NamedFile>, file: NamedFile) -> Result<(), Stop>
     ensures added { OnOk result (files.new.items ≡ files.old.items ++ file ∷ []) }
@@ -142,9 +174,33 @@ fn push_file(files: &mut Vec<NamedFile>, file: NamedFile) -> Result<(), Stop>
     }
 }
 
-/// Whether a file is that of a class or of an aspect.
+impl Kept {
+    ghost use Rattle.std.specs.Prelude.{◌≡◌};
+    ghost use Rattle.ajweave.specs.Steps.{keeps};
+
+    /// Whether a file of this name is kept.
+    fn keeps(self, name: &str) -> bool
+        ensures { result ≡ keeps self name.now }
+    {
+        match self {
+            Kept::Inputs => is_input(name),
+            Kept::Classes => is_class_file(name),
+        }
+    }
+}
+
+ghost use Rattle.jp_model.specs.Input.{is_input, is_class_file};
+
+/// Whether a file of this name is one of a class or of an aspect.
 fn is_input(name: &str) -> bool
     ensures { result ≡ is_input name.now }
 {
     name.ends_with(".class") || name.ends_with(".aj")
+}
+
+/// Whether a file of this name is one of a class.
+fn is_class_file(name: &str) -> bool
+    ensures { result ≡ is_class_file name.now }
+{
+    name.ends_with(".class")
 }

@@ -5,6 +5,8 @@
 mod command;
 mod input;
 mod report;
+mod run;
+mod script;
 mod status;
 mod stop;
 mod top;

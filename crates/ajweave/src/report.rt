@@ -3,7 +3,11 @@ ghost use Rattle.std.specs.Prelude.{◌≡◌, ◌≢◌, ◌==◌, if◌then◌
 ghost use Rattle.aj_names.specs.Hierarchy.{dotted};
 ghost use Rattle.aj_outside.specs.Counts.{ComesWithRise};
 ghost use Rattle.ajweave.specs.Words.{usage_line, refusal_line, refusal_words, world_words, refused_name, class_text};
-ghost use Rattle.ajweave.specs.Steps.{PrintsFor, Reports};
+ghost use Rattle.std.specs.Option.{option_map};
+ghost use Rattle.machine_values.specs.Observed.{machine_ending};
+ghost use Rattle.ajweave.specs.Answers.{PrintsFor};
+ghost use Rattle.ajweave.specs.Runs.{answer_of_ending, seen_text};
+ghost use Rattle.ajweave.specs.Steps.{Reports, ReportsRun, ReportsStop, seen_of};
 
 use crate::status::{Refusal, Status};
 use crate::stop::Stop;
@@ -11,6 +15,9 @@ use aj_names::InternalName;
 use aj_outside::{Name, Sink, SinkFault};
 use class_format::ClassFault;
 use class_world::WorldFault;
+use machine_values::Ending;
+use run_driver::Report;
+use run_lines::run_text;
 use std::alloc::{AllocError, Global};
 use std::fmt;
 use weave_plan::utf8_of;
@@ -33,10 +40,59 @@ pub(crate) fn report<O: Sink>(alloc: Global, ended: Result<(), Stop>, out: &mut 
 {
     match ended {
         Ok(()) => Status::Done,
-        Err(Stop::Read) => Status::ReadFault,
-        Err(Stop::Write) => Status::WriteFault,
-        Err(Stop::Memory) => Status::OutOfMemory,
-        Err(Stop::Refused(refusal)) => refuse(alloc, refusal, out),
+        Err(fault) => stopped(alloc, fault, out),
+    }
+}
+
+/// The answer to how a run ended: prints its events and its ending, or the line of a refusal.
+pub(crate) fn report_run<O: Sink>(alloc: Global, ended: Result<Report, Stop>, out: &mut O) -> Status
+    ensures reported { ReportsRun ended result (O.written out.old) (O.written out.new) }
+    ensures failed { ComesWithRise (result ≡ Status.PrintFault) (O.faults out.old) (O.faults out.new) }
+{
+    match ended {
+        Ok(seen) => tell(alloc, &seen, out),
+        Err(fault) => stopped(alloc, fault, out),
+    }
+}
+
+/// The answer to why a command stopped: prints the line of a refusal.
+fn stopped<O: Sink>(alloc: Global, fault: Stop, out: &mut O) -> Status
+    ensures reported { ReportsStop fault result (O.written out.old) (O.written out.new) }
+    ensures failed { ComesWithRise (result ≡ Status.PrintFault) (O.faults out.old) (O.faults out.new) }
+{
+    match fault {
+        Stop::Read => Status::ReadFault,
+        Stop::Write => Status::WriteFault,
+        Stop::Memory => Status::OutOfMemory,
+        Stop::Refused(refusal) => refuse(alloc, refusal, out),
+    }
+}
+
+/// Prints what was observed of a run.
+fn tell<O: Sink>(alloc: Global, seen: &Report, out: &mut O) -> Status
+    ensures printed { PrintsFor (answer_of_ending (option_map machine_ending seen.now.ending)) (seen_text (seen_of seen.now)) result (O.written out.old) (O.written out.new) }
+    ensures failed { ComesWithRise (result ≡ Status.PrintFault) (O.faults out.old) (O.faults out.new) }
+{
+    match run_text(alloc, seen.events.as_slice(), &seen.ending) {
+        Ok(text) => printed(out, text.as_slice(), answer_of_ending(&seen.ending)),
+        Err(_) => Status::OutOfMemory,
+    }
+}
+
+/// The answer by how a run ended.
+fn answer_of_ending(ending: &Option<Ending>) -> Status
+    ensures { result ≡ answer_of_ending (option_map machine_ending ending.now) }
+{
+    match ending {
+        None => Status::StepsSpent,
+        Some(Ending::Returned(_)) => Status::Returned,
+        Some(Ending::Uncaught(_, _)) => Status::Uncaught,
+        Some(Ending::InitFailed(_)) => Status::InitFailed,
+        Some(Ending::Exit(_)) => Status::Exit,
+        Some(Ending::Unmodelled(_)) => Status::Unmodelled,
+        Some(Ending::Unresolved(_)) => Status::Unresolved,
+        Some(Ending::Broken) => Status::Broken,
+        Some(Ending::ScriptEnds) => Status::ScriptEnds,
     }
 }
 
@@ -88,7 +144,13 @@ fn refusal_words(alloc: Global, refusal: &Refusal) -> Result<Vec<u8>, AllocError
             refused_file(alloc, name, words.as_bytes())
         }
         Refusal::World(fault) => world_words(alloc, fault),
+        Refusal::NoScript(name) => refused_file(alloc, name, b"no-script"),
+        Refusal::Script(name, line) => {
+            let why = format!(in alloc; "script {line}")?;
+            refused_file(alloc, name, why.as_bytes())
+        }
         Refusal::NotBuilt(name) => refused_file(alloc, name, b"not-built"),
+        Refusal::NoEntry(word) => refused_file(alloc, word, b"no-entry"),
     }
 }
 

@@ -7,21 +7,30 @@ use class_world::WorldFault;
 pub enum Refusal {
     /// More than 65,536 files are listed.
     ManyFiles,
-    /// This file is the first that is longer than 16,777,216 bytes.
+    /// This file is the first that is longer than 16,777,216 bytes. The file of a script comes behind those
+    /// of classes, and is named as it was given.
     BigFile(Name),
+    /// There is no file of this name, which was given as that of a script.
+    NoScript(Name),
+    /// This line of the file of a script, from 1 on, is the first that is no answer.
+    Script(Name, u64),
     /// This class file is the first that is none, with the first fault in it.
     Class(Name, ClassFault),
     /// The classes have this first fault as a world.
     World(WorldFault),
     /// This file is the first that is not of a form that is built.
     NotBuilt(Name),
+    /// No method takes the entry, which is named as it was given.
+    NoEntry(Name),
 }
 
 /// What a call of the program answers. Each answer has a number, with which the process ends.
 #[derive(Debug, Drop)]
 pub enum Status {
-    /// 0: the command did what it says.
+    /// 0: the weaving is written.
     Done,
+    /// 0: the method that was run returned.
+    Returned,
     /// 1: the input is refused, and its one line is printed.
     Refused(Refusal),
     /// 2: the words are no command, and the usage line is printed.
@@ -34,6 +43,22 @@ pub enum Status {
     PrintFault,
     /// 7: memory ran out.
     OutOfMemory,
+    /// 10: an exception left the method that was run.
+    Uncaught,
+    /// 11: an exception left an initialiser, in a run.
+    InitFailed,
+    /// 12: the run called `System.exit`.
+    Exit,
+    /// 13: the run came to an instruction that computes with floating-point numbers.
+    Unmodelled,
+    /// 14: the run came to a class or a member that isn't there.
+    Unresolved,
+    /// 15: the run came to code that does what no verified code does.
+    Broken,
+    /// 16: the steps were spent before the run ended.
+    StepsSpent,
+    /// 17: a native call found no answer that fits it.
+    ScriptEnds,
 }
 
 impl Status {
@@ -45,13 +70,21 @@ impl Status {
         ensures { result ≡ code_of self.now }
     {
         match self {
-            Status::Done => 0,
+            Status::Done | Status::Returned => 0,
             Status::Refused(_) => 1,
             Status::Usage => 2,
             Status::ReadFault => 3,
             Status::WriteFault => 4,
             Status::PrintFault => 5,
             Status::OutOfMemory => 7,
+            Status::Uncaught => 10,
+            Status::InitFailed => 11,
+            Status::Exit => 12,
+            Status::Unmodelled => 13,
+            Status::Unresolved => 14,
+            Status::Broken => 15,
+            Status::StepsSpent => 16,
+            Status::ScriptEnds => 17,
         }
     }
 }

@@ -8,9 +8,9 @@ ghost use Rattle.aj_outside.specs.Files.{is_under, put_each, put_file, OthersSta
 ghost use Rattle.weave_plan.specs.Faults.{AreTaken, AreRefused};
 ghost use Rattle.weave_plan.specs.Plan.{IsPlan, files_of};
 ghost use Rattle.ajweave.specs.Answers.{ReadFailed};
-ghost use Rattle.ajweave.specs.Steps.{OnStop, IsRefusal, IsWriteStop, IsInputRefusal, PutsSomeTold, Ends};
+ghost use Rattle.ajweave.specs.Steps.{OnStop, IsRefusal, IsWriteStop, IsInputRefusal, IsWeavingStop, PutsSomeTold, Ends};
 
-use crate::input::{check_sizes, listed, read_inputs};
+use crate::input::{Kept, check_sizes, listed, no_class, read_inputs};
 use crate::status::Refusal;
 use crate::stop::{Stop, name_within};
 use aj_outside::{Shelf, ShelfFault};
@@ -30,11 +30,12 @@ pub(crate) fn weave<S: Shelf>(
     requires can_read { S.faults shelf.old < last_count }
     requires can_miss { S.missing shelf.old < last_count }
     ensures ended { Ends result (record { input = input.now; output = output.now }) (S.held shelf.old) (S.held shelf.new) }
+    ensures own { OnStop result IsWeavingStop }
     ensures read { (result ≡ Err Stop.Read) ↔ ReadFailed (S.held shelf.old) (S.faults shelf.old) (S.faults shelf.new) (S.missing shelf.old) (S.missing shelf.new) }
     ensures failed { ComesWithRise (result ≡ Err Stop.Write) (S.write_faults shelf.old) (S.write_faults shelf.new) }
 {
     let names = listed(alloc, input, shelf)?;
-    let inputs = read_inputs(alloc, names, shelf)?;
+    let inputs = read_inputs(alloc, Kept::Inputs, names, shelf)?;
     check_sizes(alloc, input, inputs.as_slice())?;
     let outputs = planned(alloc, input, inputs.as_slice(), output)?;
     write_all(shelf, outputs.as_slice())
@@ -66,12 +67,7 @@ fn refused(alloc: Global, folder: &str, inputs: &[NamedFile], fault: PlanFault) 
 {
     match fault {
         PlanFault::Memory => Stop::Memory,
-        PlanFault::Class(place, fault) => {
-            match name_within(alloc, folder, &inputs[place].name) {
-                Ok(name) => Stop::Refused(Refusal::Class(name, fault)),
-                Err(_) => Stop::Memory,
-            }
-        }
+        PlanFault::Class(place, fault) => no_class(alloc, folder, inputs, place, fault),
         PlanFault::World(fault) => Stop::Refused(Refusal::World(fault)),
         PlanFault::NotBuilt(place) => match name_within(alloc, folder, &inputs[place].name) {
             Ok(name) => Stop::Refused(Refusal::NotBuilt(name)),

@@ -1,6 +1,7 @@
-use Rattle.std.proofs.Common.{refl}
+use Rattle.std.proofs.Common.{length, refl}
 use Rattle.std.proofs.lemmas.Result.{IfOk-weaker}
 use Rattle.ajweave.proofs.Reading.{AreListed-whole, IsNoWriteStop-list}
+use Rattle.ajweave.proofs.Weaving.{many_stop}
 use Rattle.ajweave.proofs.input.listed.Goals as goal
 
 pub returns-in-Ok-clause-all : goal.returns-in-Ok-clause-all
@@ -10,3 +11,6 @@ returns-in-Ok-clause-all g c =
 pub returns-in-Ok-clause-stopped : goal.returns-in-Ok-clause-stopped
 returns-in-Ok-clause-stopped g c =
     IsNoWriteStop-list c.args.folder.now (g.S.Shelf.held c.args.shelf.now) c.in-Ok.names.items 65537 c.at_most.result c.in-Ok.ensures.given c.at_most.ensures.stopped
+
+pub returns-in-Ok-clause-many : goal.returns-in-Ok-clause-many
+returns-in-Ok-clause-many g c = many_stop (length c.in-Ok.names.items) c.at_most.result c.at_most.ensures.stopped
