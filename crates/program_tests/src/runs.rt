@@ -53,12 +53,13 @@ pub(crate) fn weave(alloc: Global, named: &[(&str, &[u8])]) -> Result<Outcome, A
     run(alloc, &["weave", "in", "out"], named, &[], &[])
 }
 
-/// Weaves files that are told by their whole names.
-pub(crate) fn weave_files(
+/// Runs the words over files that are told by their whole names.
+pub(crate) fn run_files(
     alloc: Global,
+    texts: &[&str],
     files: Vec<(Name, Vec<u8>)>,
 ) -> Result<Outcome, AllocError> {
-    let words = words(alloc, &["weave", "in", "out"])?;
+    let words = words(alloc, texts)?;
     let mut shelf = MemShelf::new(files, Vec::new(alloc))?;
     let mut printed = MemSink::new(Vec::new(alloc));
     let status = weaver_main(alloc, words.as_slice(), &mut shelf, &mut printed).code();
@@ -69,9 +70,22 @@ pub(crate) fn weave_files(
     })
 }
 
+/// Weaves files that are told by their whole names.
+pub(crate) fn weave_files(
+    alloc: Global,
+    files: Vec<(Name, Vec<u8>)>,
+) -> Result<Outcome, AllocError> {
+    run_files(alloc, &["weave", "in", "out"], files)
+}
+
+/// Whether the command answered with this status and this text.
+pub(crate) fn answers(left: &Outcome, status: u8, text: &str) -> bool {
+    left.status == status && left.printed.bytes() == text.as_bytes()
+}
+
 /// Whether the run was refused with this line, and left the shelf with so many files.
 pub(crate) fn is_refused(left: &Outcome, line: &str, files: usize) -> bool {
-    left.status == 1 && left.printed.bytes() == line.as_bytes() && left.shelf.len() == files
+    answers(left, 1, line) && left.shelf.len() == files
 }
 
 /// Whether the shelf has exactly these bytes under the name.
