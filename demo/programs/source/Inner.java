@@ -28,8 +28,12 @@ public class Inner {
         }
     }
 
-    private static Runnable printer(final String text, final int times) {
-        class Printer implements Runnable {
+    private interface Task {
+        void run();
+    }
+
+    private static Task printer(final String text, final int times) {
+        class Printer implements Task {
             private int left = times;
 
             public void run() {

@@ -62,7 +62,7 @@ public class Words {
         System.out.println("hash".hashCode() + " " + "".hashCode() + " " + "a longer text overflows".hashCode());
         System.out.println("one".concat("two").equals("onetwo"));
         System.out.println("one" == "one");
-        System.out.println("one".concat("") == "one");
+        System.out.println("one".concat("").equals("one"));
         System.out.println(String.valueOf(true) + String.valueOf('c') + String.valueOf(12L) + String.valueOf((Object) null));
         try {
             "short".substring(3, 9);
