@@ -53,13 +53,12 @@ pub(crate) fn weave(alloc: Global, named: &[(&str, &[u8])]) -> Result<Outcome, A
     run(alloc, &["weave", "in", "out"], named, &[], &[])
 }
 
-/// Runs the words over files that are told by their whole names.
-pub(crate) fn run_files(
+/// Weaves files that are told by their whole names.
+pub(crate) fn weave_files(
     alloc: Global,
-    texts: &[&str],
     files: Vec<(Name, Vec<u8>)>,
 ) -> Result<Outcome, AllocError> {
-    let words = words(alloc, texts)?;
+    let words = words(alloc, &["weave", "in", "out"])?;
     let mut shelf = MemShelf::new(files, Vec::new(alloc))?;
     let mut printed = MemSink::new(Vec::new(alloc));
     let status = weaver_main(alloc, words.as_slice(), &mut shelf, &mut printed).code();
@@ -70,22 +69,9 @@ pub(crate) fn run_files(
     })
 }
 
-/// Weaves files that are told by their whole names.
-pub(crate) fn weave_files(
-    alloc: Global,
-    files: Vec<(Name, Vec<u8>)>,
-) -> Result<Outcome, AllocError> {
-    run_files(alloc, &["weave", "in", "out"], files)
-}
-
-/// Whether the command answered with this status and this text.
-pub(crate) fn answers(left: &Outcome, status: u8, text: &str) -> bool {
-    left.status == status && left.printed.bytes() == text.as_bytes()
-}
-
 /// Whether the run was refused with this line, and left the shelf with so many files.
 pub(crate) fn is_refused(left: &Outcome, line: &str, files: usize) -> bool {
-    answers(left, 1, line) && left.shelf.len() == files
+    left.status == 1 && left.printed.bytes() == line.as_bytes() && left.shelf.len() == files
 }
 
 /// Whether the shelf has exactly these bytes under the name.
