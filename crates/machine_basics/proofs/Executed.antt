@@ -59,12 +59,12 @@ use Rattle.machine_basics.proofs.Returnless.{Stays, basic_stays, unconcerned}
 
 -- ---- what is known where the state stands for the machine's
 
-faithful : (k : Known) (m : Machine) (old : MachineState) (left : List Answer) (t : State Place) → IsMachine k m → Runs m old left t → Faithful (naming_of m old) (length old.heap.names)
+pub faithful : (k : Known) (m : Machine) (old : MachineState) (left : List Answer) (t : State Place) → IsMachine k m → Runs m old left t → Faithful (naming_of m old) (length old.heap.names)
 faithful k m old left t is runs = record {
   tells_apart = λ a b h j. places_tell m.setting.heads old.heap.names (subst AreDistinct (sym is.heads) is.distinct) runs.shares.heap.numbered runs.shares.fit a.0 b.0 h j;
 }
 
-frame_within : (m : Machine) (old : MachineState) (left : List Answer) (t : State Place) (rest : List Frame) (f : Frame) → old.frames.items ≡ rest ++ f ∷ [] → Runs m old left t → IsFrameWithin (length old.heap.names) f
+pub frame_within : (m : Machine) (old : MachineState) (left : List Answer) (t : State Place) (rest : List Frame) (f : Frame) → old.frames.items ≡ rest ++ f ∷ [] → Runs m old left t → IsFrameWithin (length old.heap.names) f
 frame_within m old left t rest f top runs = all_last (IsFrameWithin (length old.heap.names)) rest f (subst (AllByRecursion (IsFrameWithin (length old.heap.names))) top runs.frames.frames_within)
 
 -- an effect that refers to an object that there isn't comes of no state that stands for the machine's

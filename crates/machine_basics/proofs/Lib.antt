@@ -8,3 +8,4 @@ pub mod Thrown
 pub mod Executed
 pub mod Kept
 pub mod Restored
+pub mod Spared

@@ -1,3 +1,4 @@
 pub mod Turns
 pub mod Performed
 pub mod Replied
+pub mod Sparing

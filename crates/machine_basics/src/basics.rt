@@ -9,6 +9,7 @@ ghost use Rattle.machine_steps.specs.Moves.{Moves};
 ghost use Rattle.machine_steps.specs.Executing.{executes};
 ghost use Rattle.machine_invocations.specs.Keeping.{Keeps};
 ghost use Rattle.machine_basics.specs.Performed.{is_return};
+ghost use Rattle.machine_basics.specs.Sparing.{NeedsMemory};
 
 use crate::performing::{is_within, perform_running};
 use crate::taking::take_or_restore;
@@ -29,7 +30,8 @@ fn is_return(basic: &Basic) -> bool
 ///
 /// # Errors
 /// Where there is no memory; the state stands for what it stood for then. An array of a type that is
-/// not primitive, which no `newarray` of a class file names, is refused so too.
+/// not primitive, which no `newarray` of a class file names, is refused so too. It is never refused but
+/// where executing the instruction makes an array, enters a monitor, or makes or throws an exception.
 pub fn step_basic(
     state: &mut MachineState,
     world: &World,
@@ -41,6 +43,7 @@ pub fn step_basic(
     ensures left { is_return basic.now ≡ true → result ≡ Ok NotMine }
     ensures same { is_return basic.now ≡ true → state.new ≡ state.old }
     ensures moves { is_return basic.now ≡ false → IfOk result (λ step. Moves world.now state.old state.new step (executes (Do basic.now))) }
+    ensures spared { OnErr result (NeedsMemory world.now state.old (Do basic.now)) }
     ensures err { OnErr result (Keeps world.now state.old state.new) }
 {
     if is_return(basic) {

@@ -13,6 +13,7 @@ ghost use Rattle.machine_invocations.specs.Keeping.{Keeps};
 ghost use Rattle.machine_invocations.specs.Returning.{takes_back};
 ghost use Rattle.machine_basics.specs.Turns.{asks, follows};
 ghost use Rattle.machine_basics.specs.Replied.{IsReply, IsSettledReply, is_fault};
+ghost use Rattle.machine_basics.specs.Sparing.{AsksForMemory};
 
 use crate::asking;
 use crate::going::go_next;
@@ -56,13 +57,14 @@ fn follow(state: &mut MachineState, world: &World, reply: Reply) -> Result<Step,
     }
 }
 
-// What the heap or the monitors answer.
+// What the heap or the monitors answer. Only what makes an array or enters a monitor takes memory.
 fn reply_to(state: &mut MachineState, world: &World, request: &Request) -> Result<Reply, AllocError>
     requires runnable { IsRunnable world.now }
     requires formed { IsFormed world.now state.old }
     requires known { is_request_within (length state.old.heap.names) request.now ≡ true }
     ensures formed { IsFormed world.now state.new }
     ensures replied { IfOk result (λ reply. IsReply world.now state.old request.now state.new reply) }
+    ensures spared { OnErr result (AsksForMemory world.now state.old request.now) }
     ensures err { OnErr result (Keeps world.now state.old state.new) }
 {
     match *request {
@@ -81,7 +83,8 @@ fn reply_to(state: &mut MachineState, world: &World, request: &Request) -> Resul
 /// what is given the run is Broken.
 ///
 /// # Errors
-/// Where there is no memory; the state stands for what it stood for then.
+/// Where there is no memory; the state stands for what it stood for then. It is never refused but where
+/// an array is made, a monitor entered, or an exception answered.
 pub(crate) fn ask(
     state: &mut MachineState,
     world: &World,
@@ -92,6 +95,7 @@ pub(crate) fn ask(
     requires known { is_request_within (length state.old.heap.names) request ≡ true }
     ensures formed { IsFormed world.now state.new }
     ensures moves { IfOk result (λ step. Moves world.now state.old state.new step (asks state.old request)) }
+    ensures spared { OnErr result (AsksForMemory world.now state.old request) }
     ensures err { OnErr result (Keeps world.now state.old state.new) }
 {
     let reply = reply_to(state, world, &request)?;

@@ -11,6 +11,7 @@ ghost use Rattle.machine_steps.specs.Moves.{Moves};
 ghost use Rattle.machine_invocations.specs.Keeping.{Keeps};
 ghost use Rattle.machine_basics.specs.Turns.{takes};
 ghost use Rattle.machine_basics.specs.Performed.{IsPerformed};
+ghost use Rattle.machine_basics.specs.Sparing.{TakesMemory};
 
 use crate::going::{enter, go_next, jump};
 use crate::performing::restore_running;
@@ -30,6 +31,7 @@ fn take(state: &mut MachineState, world: &World, effect: Effect) -> Result<Step,
     ensures formed { IsFormed world.now state.new }
     ensures moves { IfOk result (λ step. Moves world.now state.old state.new step (takes state.old effect)) }
     ensures plain { OnErr result (is_plain effect ≡ false) }
+    ensures spared { OnErr result (TakesMemory world.now state.old effect) }
     ensures err { OnErr result (Keeps world.now state.old state.new) }
 {
     match effect {
@@ -49,7 +51,8 @@ fn take(state: &mut MachineState, world: &World, effect: Effect) -> Result<Step,
 /// the instruction took from it.
 ///
 /// # Errors
-/// Where there is no memory; the state stands then for what it stood for before the instruction.
+/// Where there is no memory; the state stands then for what it stood for before the instruction. It is
+/// never refused but where the effect makes an array, enters a monitor, or makes or throws an exception.
 pub(crate) fn take_or_restore(
     state: &mut MachineState,
     world: &World,
@@ -61,6 +64,7 @@ pub(crate) fn take_or_restore(
     requires known { is_effect_within (length state.old.heap.names) effect ≡ true }
     ensures formed { IfOk result (λ step. IsFormed world.now state.new) }
     ensures moves { IfOk result (λ step. Moves world.now state.old state.new step (takes state.old effect)) }
+    ensures spared { OnErr result (TakesMemory world.now state.old effect) }
     ensures err { OnErr result ((before : StateOf) (basic : BasicOf) → IsPerformed before state.old basic effect → Keeps world.now before state.new) }
 {
     match take(state, world, effect) {

@@ -1,2 +1,3 @@
 pub mod Standing
 pub mod Forms
+pub mod Spared

@@ -7,6 +7,7 @@ ghost use Rattle.machine_steps.specs.Runs.{IsFormed};
 ghost use Rattle.machine_invocations.specs.Keeping.{Keeps};
 ghost use Rattle.machine_core.specs.Taking.{is_of_object, is_core_form, TakesCore};
 ghost use Rattle.machine_core.specs.ClassForms.{on_class};
+ghost use Rattle.machine_core.specs.Sparing.{MayNeedBy};
 
 use class_file::{PoolEntry, class_at, field_at, string_at};
 use class_machine::kinds::Access;
@@ -108,7 +109,9 @@ fn execute_on_class(
 /// Executes the core's instruction, and leaves any other one.
 ///
 /// # Errors
-/// Where there is no memory; the state stands for what it stood for then.
+/// Where there is no memory; the state stands for what it stood for then. What names nothing in the
+/// constant pool is never refused but where it makes an array, enters a monitor, or makes or throws an
+/// exception, and a switch is never refused.
 pub(crate) fn execute(
     state: &mut MachineState,
     world: &World,
@@ -120,6 +123,7 @@ pub(crate) fn execute(
     ensures formed { IsFormed world.now state.new }
     ensures takes { IfOk result (λ step. TakesCore world.now state.old state.new step pool.now operation) }
     ensures own { OnErr result (is_core_form operation ≡ true) }
+    ensures spared { OnErr result (MayNeedBy world.now state.old pool.now operation) }
     ensures err { OnErr result (Keeps world.now state.old state.new) }
 {
     match operation {

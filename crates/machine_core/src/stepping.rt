@@ -7,6 +7,7 @@ ghost use Rattle.machine_steps.specs.Programs.{IsRunnable};
 ghost use Rattle.machine_steps.specs.Runs.{IsFormed};
 ghost use Rattle.machine_invocations.specs.Keeping.{Keeps};
 ghost use Rattle.machine_core.specs.Taking.{IsOwn};
+ghost use Rattle.machine_core.specs.Sparing.{MayNeed};
 
 use crate::executing::execute;
 use class_world::World;
@@ -20,13 +21,16 @@ use std::alloc::AllocError;
 /// nothing here: it is never refused.
 ///
 /// # Errors
-/// Where there is no memory; the state stands for what it stood for then.
+/// Where there is no memory; the state stands for what it stood for then. An instruction that names
+/// nothing in the constant pool and makes no object, array or exception and enters no monitor is never
+/// refused, nor is a switch.
 pub fn step_core(state: &mut MachineState, world: &World) -> Result<Step, AllocError>
     requires runnable { IsRunnable world.now }
     requires formed { IsFormed world.now state.old }
     ensures formed { IsFormed world.now state.new }
     ensures takes { IfOk result (λ step. (answers : List Answer) → Takes Part.Core world.now state.old state.new answers answers step) }
     ensures own { OnErr result (IsOwn world.now state.old) }
+    ensures spared { OnErr result (MayNeed world.now state.old) }
     ensures err { OnErr result (Keeps world.now state.old state.new) }
 {
     match running_operation(state, world) {

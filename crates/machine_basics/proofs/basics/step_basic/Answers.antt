@@ -8,6 +8,7 @@ use Rattle.machine_steps.specs.Executing.{executes}
 use Rattle.machine_basics.proofs.Executed.{executed_moves, unknown_breaks, no_frame_breaks}
 use Rattle.machine_basics.proofs.Kept.{if_err}
 use Rattle.machine_basics.proofs.Restored.{if_ok, formed_either, formed_performed, frame_runs}
+use Rattle.machine_basics.proofs.Spared.{performed_needs}
 use Rattle.machine_basics.proofs.basics.step_basic.Goals as goal
 
 pub returns-then-is_return-clause-moves : goal.returns-then-is_return-clause-moves
@@ -53,3 +54,9 @@ returns-clause-moves c = λ other.
     if_ok _ _ c.take_or_restore.result
     (λ step moves. executed_moves c.args.world.now c.args.state.now c.perform_running-effect.new.state c.take_or_restore.new.state c.args.basic.now c.perform_running-effect.result step c.perform_running-effect.ensures other moves)
     c.take_or_restore.ensures.moves
+
+pub returns-clause-spared : goal.returns-clause-spared
+returns-clause-spared c =
+    if_err _ _ c.take_or_restore.result
+    (performed_needs c.args.world.now c.args.state.now c.perform_running-effect.new.state c.args.basic.now c.perform_running-effect.result c.perform_running-effect.ensures (sym c.is_return.ensures ∙ c.if-is_return.false))
+    c.take_or_restore.ensures.spared

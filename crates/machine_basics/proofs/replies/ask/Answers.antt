@@ -6,6 +6,7 @@ use Rattle.machine_basics.specs.Replied.{IsSettledReply}
 use Rattle.machine_basics.proofs.Kept.{both_ok, ok_under, both_err, if_err, keeps_fault}
 use Rattle.machine_basics.proofs.Restored.{if_ok}
 use Rattle.machine_basics.proofs.Answered.{asked_moves}
+use Rattle.machine_basics.proofs.Spared.{asks_fault}
 use Rattle.machine_basics.proofs.replies.ask.Goals as goal
 
 pub returns-clause-moves : goal.returns-clause-moves
@@ -24,3 +25,7 @@ returns-clause-err c =
     if_err _ _ c.follow.result
     (λ both. subst (λ (s : MachineState). Keeps k old s) (sym both.1) (keeps_fault k old c.args.request mid c.in_ok-reply.reply c.in_ok-reply.ensures.replied both.0))
     (both_err _ _ c.follow.result c.follow.ensures.fault c.follow.ensures.err)
+
+pub returns-clause-spared : goal.returns-clause-spared
+returns-clause-spared c =
+    if_err _ _ c.follow.result (asks_fault c.args.world.now c.args.state.now c.reply_to.new.state c.args.request c.in_ok-reply.reply c.in_ok-reply.ensures.replied) c.follow.ensures.fault

@@ -1,4 +1,4 @@
-use Rattle.std.specs.Prelude.{ℤ, length, IfOk}
+use Rattle.std.specs.Prelude.{ℤ, length, IfOk, refl}
 use Rattle.std.specs.Int.{w32}
 use Rattle.std.proofs.lemmas.Int.{to_z-of_z}
 use Rattle.machine_frames.specs.declared.effect.Request.TheVariants.{MakeArray, ArrayLoad, ArrayStore}
@@ -9,7 +9,9 @@ use Rattle.machine_values.specs.States.{is_known_object}
 use Rattle.machine_requests.specs.declared.reply.Reply.{Reply}
 use Rattle.machine_frames.specs.declared.effect.Request.{Request}
 use Rattle.machine_frames.specs.Effects.{is_request_within}
+use Rattle.machine_invocations.proofs.Begun.{on_err}
 use Rattle.machine_basics.specs.Replied.{IsReply}
+use Rattle.machine_basics.specs.Sparing.{AsksForMemory}
 use Rattle.machine_basics.proofs.Kept.{if_err, keeps_same, formed_replied, formed_reply}
 use Rattle.machine_basics.proofs.Restored.{if_ok}
 use Rattle.machine_basics.proofs.replies.reply_to.Goals as goal
@@ -67,6 +69,12 @@ returns-in-MakeArray-clause-err c = if_err _ _ c.make.result (keeps_same c.args.
 
 pub returns-in-EnterMonitor-clause-err : goal.returns-in-EnterMonitor-clause-err
 returns-in-EnterMonitor-clause-err c = if_err _ _ c.enter.result (λ keeps. keeps c.args.world.now) c.enter.ensures.err
+
+pub returns-in-MakeArray-clause-spared : goal.returns-in-MakeArray-clause-spared
+returns-in-MakeArray-clause-spared c = on_err c.make.result (subst (λ (r : Request). AsksForMemory c.args.world.now c.args.state.now r) (sym c.in-MakeArray.is) (λ m w is shares. refl))
+
+pub returns-in-EnterMonitor-clause-spared : goal.returns-in-EnterMonitor-clause-spared
+returns-in-EnterMonitor-clause-spared c = on_err c.enter.result (subst (λ (r : Request). AsksForMemory c.args.world.now c.args.state.now r) (sym c.in-EnterMonitor.is) (λ m w is shares. refl))
 
 -- ---- the tables
 

@@ -6,7 +6,9 @@ use Rattle.machine_frames.specs.Effects.{is_effect_within}
 use Rattle.machine_frames.specs.Undoing.{is_plain}
 use Rattle.machine_steps.specs.declared.step.Step.{Step}
 use Rattle.machine_steps.specs.Moves.{Moves}
+use Rattle.machine_invocations.proofs.Begun.{on_err}
 use Rattle.machine_basics.specs.Turns.{takes}
+use Rattle.machine_basics.specs.Sparing.{TakesMemory}
 use Rattle.machine_basics.proofs.Kept.{keeps_same, if_err}
 use Rattle.machine_basics.proofs.Restored.{if_ok}
 use Rattle.machine_basics.proofs.taking.take.Goals as goal
@@ -60,3 +62,13 @@ returns-in-Fail-clause-err c = if_err _ _ c.fail.result (keeps_same c.args.world
 
 pub returns-in-Throw-clause-err : goal.returns-in-Throw-clause-err
 returns-in-Throw-clause-err c = if_err _ _ c.throw.result (keeps_same c.args.world.now c.args.state.now c.throw.new.state) c.throw.ensures.err
+
+pub returns-in-Ask-clause-spared : goal.returns-in-Ask-clause-spared
+returns-in-Ask-clause-spared c =
+    if_err _ _ c.ask.result (λ asks. subst (λ (e : Effect). TakesMemory c.args.world.now c.args.state.now e) (sym c.in-Ask.is) (λ m w method operands locals is shares. asks m w is shares)) c.ask.ensures.spared
+
+pub returns-in-Fail-clause-spared : goal.returns-in-Fail-clause-spared
+returns-in-Fail-clause-spared c = on_err c.fail.result (subst (λ (e : Effect). TakesMemory c.args.world.now c.args.state.now e) (sym c.in-Fail.is) (λ m w method operands locals is shares. refl))
+
+pub returns-in-Throw-clause-spared : goal.returns-in-Throw-clause-spared
+returns-in-Throw-clause-spared c = on_err c.throw.result (subst (λ (e : Effect). TakesMemory c.args.world.now c.args.state.now e) (sym c.in-Throw.is) (λ m w method operands locals is shares. refl))

@@ -10,3 +10,6 @@ restore_running-requires c = subst (λ (l : List Frame). 0 < length l) (sym c.in
 pub returns-in-Err-clause-err : goal.returns-in-Err-clause-err
 returns-in-Err-clause-err c = λ before basic performed.
     keeps_restored c.args.world.now before c.args.state.now c.take.new.state c.restore_running.new.state basic c.args.effect performed c.in-Err.ensures.err c.restore_running.ensures c.in-Err.ensures.plain
+
+pub returns-in-Err-clause-spared : goal.returns-in-Err-clause-spared
+returns-in-Err-clause-spared c = c.in-Err.ensures.spared

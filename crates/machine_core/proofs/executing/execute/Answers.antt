@@ -1,12 +1,15 @@
 use Rattle.std.specs.Prelude.{◌≡◌, true, OnErr, refl}
 use Rattle.machine_steps.specs.declared.step.Step.TheVariants.{NotMine}
 use Rattle.machine_core.specs.Taking.{is_core_form, TakesCore}
+use Rattle.machine_core.specs.Sparing.{MayNeedBy}
 use Rattle.std.proofs.Common.{sym, ap, subst}
 use Rattle.machine_code.specs.declared.operation.Operation.{Operation}
 use Rattle.machine_code.specs.declared.operation.Operation.TheVariants as code
+use Rattle.std.proofs.lemmas.Result.{on_err_weaker}
 use Rattle.machine_invocations.proofs.Begun.{on_err}
 use Rattle.machine_basics.specs.Performed.{is_return}
 use Rattle.machine_core.proofs.Forms.{basic_taking, form_taken, basic_taken, switch_taken, call_left}
+use Rattle.machine_core.proofs.Spared.{names_something, named_needs, basic_needs}
 use Rattle.machine_core.proofs.executing.execute.Goals as goal
 
 pub returns-in-Do-clause-takes : goal.returns-in-Do-clause-takes
@@ -82,3 +85,29 @@ returns-in-CheckCast-clause-own c = on_err c.execute_on_class-in-CheckCast.resul
 
 pub returns-in-InstanceOf-clause-own : goal.returns-in-InstanceOf-clause-own
 returns-in-InstanceOf-clause-own c = on_err c.execute_on_class-in-InstanceOf.result (ap is_core_form c.in-InstanceOf.is)
+
+pub returns-in-Do-clause-spared : goal.returns-in-Do-clause-spared
+returns-in-Do-clause-spared c =
+    subst (λ (o : Operation). OnErr c.step_basic.result (MayNeedBy c.args.world.now c.args.state.now c.args.pool.now o)) (sym c.in-Do.is)
+    (on_err_weaker c.step_basic.result (basic_needs c.args.world.now c.args.state.now c.args.pool.now c.in-Do.basic) c.step_basic.ensures.spared)
+
+pub returns-in-Refer-clause-spared : goal.returns-in-Refer-clause-spared
+returns-in-Refer-clause-spared c = on_err c.refer_to.result (named_needs c.args.world.now c.args.state.now c.args.pool.now c.args.operation (ap names_something c.in-Refer.is))
+
+pub returns-in-ReferClass-clause-spared : goal.returns-in-ReferClass-clause-spared
+returns-in-ReferClass-clause-spared c = on_err c.execute_on_class.result (named_needs c.args.world.now c.args.state.now c.args.pool.now c.args.operation (ap names_something c.in-ReferClass.is))
+
+pub returns-in-FieldAccess-clause-spared : goal.returns-in-FieldAccess-clause-spared
+returns-in-FieldAccess-clause-spared c = on_err c.access_field.result (named_needs c.args.world.now c.args.state.now c.args.pool.now c.args.operation (ap names_something c.in-FieldAccess.is))
+
+pub returns-in-NewReferenceArray-clause-spared : goal.returns-in-NewReferenceArray-clause-spared
+returns-in-NewReferenceArray-clause-spared c = on_err c.execute_on_class-in-NewReferenceArray.result (named_needs c.args.world.now c.args.state.now c.args.pool.now c.args.operation (ap names_something c.in-NewReferenceArray.is))
+
+pub returns-in-NewArrays-clause-spared : goal.returns-in-NewArrays-clause-spared
+returns-in-NewArrays-clause-spared c = on_err c.execute_on_class-in-NewArrays.result (named_needs c.args.world.now c.args.state.now c.args.pool.now c.args.operation (ap names_something c.in-NewArrays.is))
+
+pub returns-in-CheckCast-clause-spared : goal.returns-in-CheckCast-clause-spared
+returns-in-CheckCast-clause-spared c = on_err c.execute_on_class-in-CheckCast.result (named_needs c.args.world.now c.args.state.now c.args.pool.now c.args.operation (ap names_something c.in-CheckCast.is))
+
+pub returns-in-InstanceOf-clause-spared : goal.returns-in-InstanceOf-clause-spared
+returns-in-InstanceOf-clause-spared c = on_err c.execute_on_class-in-InstanceOf.result (named_needs c.args.world.now c.args.state.now c.args.pool.now c.args.operation (ap names_something c.in-InstanceOf.is))

@@ -6,6 +6,7 @@ use Rattle.machine_steps.specs.Parts.{Part, Takes}
 use Rattle.machine_parts.specs.Taken.{takes_form, leaves_nowhere}
 use Rattle.machine_core.specs.Taking.{TakesCore}
 use Rattle.machine_core.proofs.Standing.{own_step}
+use Rattle.machine_core.proofs.Spared.{may_need}
 use Rattle.machine_core.proofs.stepping.step_core.Goals as goal
 
 pub returns-in-None-clause-takes : goal.returns-in-None-clause-takes
@@ -23,3 +24,7 @@ returns-in-Some-clause-takes c =
 pub returns-in-Some-clause-own : goal.returns-in-Some-clause-own
 returns-in-Some-clause-own c =
     on_err_weaker c.execute.result (own_step c.args.world.now c.args.state.now c.in-Some.running.pool.now c.in-Some.running.operation c.in-Some.ensures) c.execute.ensures.own
+
+pub returns-in-Some-clause-spared : goal.returns-in-Some-clause-spared
+returns-in-Some-clause-spared c =
+    on_err_weaker c.execute.result (may_need c.args.world.now c.args.state.now c.in-Some.running.pool.now c.in-Some.running.operation c.in-Some.ensures) c.execute.ensures.spared
