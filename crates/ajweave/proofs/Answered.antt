@@ -7,10 +7,10 @@ use Rattle.ajweave.specs.declared.status.Status.{Status}
 use Rattle.ajweave.specs.declared.status.Status.TheVariants as status
 use Rattle.ajweave.specs.declared.stop.Stop.TheVariants as stop
 use Rattle.ajweave.specs.Words.{Folders}
-use Rattle.ajweave.specs.Answers.{AnswersPrinted, AnswersRead, AnswersDone, IsRefused, IsValid, WritesWeaving, BehavesAsWritten, WritesExactly, WritesUntouched, WritesDeclared, OnTold, Commanded, CommandedTo, CommandedSome, KeepsShelf, Prints}
-use Rattle.ajweave.specs.Runs.{Refused, ComesTo, SaysRun, SayNoRun}
-use Rattle.ajweave.specs.Steps.{Ends, Reports}
-use Rattle.ajweave.proofs.Answering.{Ended, Text, behaves_by, written_by, untouched_by, declared_by, done_ended, done_valid, command_never_usage, read_ended, write_ended, refused_ended, refused_only_ended, complete_ended, kept_ended, some_ended, memory_ended, printed_ended, usage_answers, usage_printed, kept_always}
+use Rattle.ajweave.specs.Answers.{AnswersPrinted, AnswersRead, AnswersDone, IsRefused, IsOfWeaving, IsValid, WritesWeaving, BehavesAsWritten, WritesExactly, WritesUntouched, WritesDeclared, OnTold, Commanded, CommandedTo, CommandedSome, KeepsShelf, Prints}
+use Rattle.ajweave.specs.Runs.{Refused, ComesTo, SaysRun, SayNoRun, IsOfRunning}
+use Rattle.ajweave.specs.Steps.{OnStop, IsWeavingStop, Ends, Reports}
+use Rattle.ajweave.proofs.Answering.{Ended, Text, behaves_by, written_by, untouched_by, declared_by, done_ended, done_valid, command_never_usage, read_ended, write_ended, refused_ended, refused_only_ended, own_ended, complete_ended, kept_ended, some_ended, memory_ended, printed_ended, usage_answers, usage_printed, kept_always}
 use Rattle.ajweave.proofs.Running.{RunAnswered}
 
 pub record Answered (words : List (List ℕ)) (command : Option Folders) (held held_now : Option Files) (result : Status) (before now : Option (List ℕ)) : Type 0 where
@@ -22,7 +22,7 @@ pub record Answered (words : List (List ℕ)) (command : Option Folders) (held h
   pub usage : command ≡ None → SayNoRun words → AnswersPrinted status.Usage result
   pub usage_only : result ≡ status.Usage → (command ≡ None) × SayNoRun words
   pub refused : OnTold command held (λ folders files. (refusal : Refusal) → IsRefused folders.input files refusal → AnswersRead (status.Refused refusal) result)
-  pub refused_only : (refusal : Refusal) → result ≡ status.Refused refusal → Commanded command held (λ folders files. IsRefused folders.input files refusal) ⊎ SaysRun words held (λ run files. ComesTo run files (Refused refusal))
+  pub refused_only : (refusal : Refusal) → result ≡ status.Refused refusal → (Commanded command held (λ folders files. IsRefused folders.input files refusal) × IsOfWeaving refusal) ⊎ (SaysRun words held (λ run files. ComesTo run files (Refused refusal)) × IsOfRunning refusal)
   pub complete : OnTold command held (λ folders files. IsValid folders.input files → AnswersDone result)
   pub done_only : result ≡ status.Done → Commanded command held (λ folders files. IsValid folders.input files)
   pub shelf_kept : KeepsShelf result held held_now
@@ -33,8 +33,8 @@ pub record Answered (words : List (List ℕ)) (command : Option Folders) (held h
 some_none : (folders : Folders) → ◌≡◌ {A = Option Folders} (Some folders) None → ⊥
 some_none folders h = cc
 
-ended_answers : (words : List (List ℕ)) (folders : Folders) (held held_now : Option Files) (ended : Ended) (result : Status) (before now : Text) → Reports ended result before now → Ends ended folders held held_now → Answered words (Some folders) held held_now result before now
-ended_answers words folders held held_now ended result before now r e = record {
+ended_answers : (words : List (List ℕ)) (folders : Folders) (held held_now : Option Files) (ended : Ended) (result : Status) (before now : Text) → Reports ended result before now → Ends ended folders held held_now → OnStop ended IsWeavingStop → Answered words (Some folders) held held_now result before now
+ended_answers words folders held held_now ended result before now r e own = record {
   headline = λ d. (done_ended folders held held_now ended result before now r e d).0;
   behaves = λ d. behaves_by (Some folders) held held_now (done_ended folders held held_now ended result before now r e d).0;
   written = λ d. written_by (Some folders) held held_now (done_ended folders held held_now ended result before now r e d).0;
@@ -43,7 +43,7 @@ ended_answers words folders held held_now ended result before now r e = record {
   usage = λ d none. absurd (some_none folders d);
   usage_only = λ d. absurd (command_never_usage ended result before now r d);
   refused = refused_ended folders held held_now ended result before now r e;
-  refused_only = λ refusal d. inl (refused_only_ended folders held held_now ended result before now r e refusal d);
+  refused_only = λ refusal d. inl (refused_only_ended folders held held_now ended result before now r e refusal d, own_ended ended result before now r own refusal d);
   complete = complete_ended folders held held_now ended result before now r e;
   done_only = λ d. done_valid folders held (done_ended folders held held_now ended result before now r e d).1;
   shelf_kept = kept_ended folders held held_now ended result before now r e;
@@ -53,9 +53,9 @@ ended_answers words folders held held_now ended result before now r e = record {
 }
 
 -- of a weaving
-pub Answered-command : (words : List (List ℕ)) (command : Option Folders) (folders : Folders) (held held_now : Option Files) (ended : Ended) (result : Status) (before now : Text) → command ≡ Some folders → Reports ended result before now → Ends ended folders held held_now → Answered words command held held_now result before now
-Answered-command words command folders held held_now ended result before now is r e =
-    subst (λ (c : Option Folders). Answered words c held held_now result before now) (sym is) (ended_answers words folders held held_now ended result before now r e)
+pub Answered-command : (words : List (List ℕ)) (command : Option Folders) (folders : Folders) (held held_now : Option Files) (ended : Ended) (result : Status) (before now : Text) → command ≡ Some folders → Reports ended result before now → Ends ended folders held held_now → OnStop ended IsWeavingStop → Answered words command held held_now result before now
+Answered-command words command folders held held_now ended result before now is r e own =
+    subst (λ (c : Option Folders). Answered words c held held_now result before now) (sym is) (ended_answers words folders held held_now ended result before now r e own)
 
 other_answers : (words : List (List ℕ)) (held held_now : Option Files) (result : Status) (before now : Text) (faults faults_now missing missing_now : ℕ) → RunAnswered words held result before now faults faults_now missing missing_now → held_now ≡ held → Answered words None held held_now result before now
 other_answers words held held_now result before now faults faults_now missing missing_now a kept = record {

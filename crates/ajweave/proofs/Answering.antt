@@ -13,9 +13,9 @@ use Rattle.ajweave.specs.declared.status.Status.TheVariants as status
 use Rattle.ajweave.specs.declared.stop.Stop.{Stop}
 use Rattle.ajweave.specs.declared.stop.Stop.TheVariants as stop
 use Rattle.ajweave.specs.Words.{Folders, usage_line, refusal_line}
-use Rattle.ajweave.specs.Answers.{AnswersPrinted, AnswersRead, AnswersDone, IsRefused, IsValid, Wrote, WritesWeaving, BehavesAsWritten, WritesExactly, WritesUntouched, WritesDeclared, OnTold, Commanded, CommandedTo, CommandedSome, KeepsShelf, IsDue, PrintsPart, Prints, PrintsFor}
+use Rattle.ajweave.specs.Answers.{AnswersPrinted, AnswersRead, AnswersDone, IsRefused, IsOfWeaving, IsValid, Wrote, WritesWeaving, BehavesAsWritten, WritesExactly, WritesUntouched, WritesDeclared, OnTold, Commanded, CommandedTo, CommandedSome, KeepsShelf, IsDue, PrintsPart, Prints, PrintsFor}
 use Rattle.ajweave.specs.Runs.{IsOfRun}
-use Rattle.ajweave.specs.Steps.{OnStop, IsOfWeaving, IsWeavingStop, Ends, Reports}
+use Rattle.ajweave.specs.Steps.{OnStop, IsWeavingStop, Ends, Reports}
 use Rattle.ajweave.proofs.Refusals.{IsRefused-same, IsValid-never_refused}
 
 abbrev pub Ended : Type 0
@@ -160,11 +160,17 @@ pub command_never_observed : (ended : Ended) (result : Status) (before now : Tex
 command_never_observed =
     after_command (λ ended result. IsOfRun result → ⊥) (λ x i. i) (λ i. i) (λ i. i) (λ i. i) (λ refusal i. i) (λ refusal i. i) (λ refusal i. i)
 
+-- a refusal is one that a weaving has
+pub own_ended : (ended : Ended) (result : Status) (before now : Text) → Reports ended result before now → OnStop ended IsWeavingStop → (refusal : Refusal) → result ≡ refused refusal → IsOfWeaving refusal
+own_ended =
+    after_command (λ ended result. OnStop ended IsWeavingStop → (refusal : Refusal) → result ≡ refused refusal → IsOfWeaving refusal)
+    (λ x own refusal d. cc) (λ own refusal d. cc) (λ own refusal d. cc) (λ own refusal d. cc)
+    (λ other own refusal d. subst IsOfWeaving (refused-same other refusal d) own)
+    (λ other own refusal d. cc) (λ other own refusal d. cc)
+
 -- no file of a script is missing
 pub command_never_unscripted : (name : List ℕ) (ended : Ended) (result : Status) (before now : Text) → Reports ended result before now → OnStop ended IsWeavingStop → result ≢ refused (NoScript name)
-command_never_unscripted name =
-    after_command (λ ended result. OnStop ended IsWeavingStop → result ≢ refused (NoScript name))
-    (λ x own d. cc) (λ own d. cc) (λ own d. cc) (λ own d. cc) (λ refusal own d. subst IsOfWeaving (refused-same refusal (NoScript name) d) own) (λ refusal own d. cc) (λ refusal own d. cc)
+command_never_unscripted name ended result before now r own d = own_ended ended result before now r own (NoScript name) d
 
 -- the shelf holds what it held
 pub kept_always : (result : Status) (held held_now : Option Files) → held_now ≡ held → KeepsShelf result held held_now

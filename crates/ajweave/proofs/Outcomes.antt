@@ -1,5 +1,5 @@
 -- How a run of classes ends, from how its steps ended.
-use Rattle.std.proofs.Common.{◌≡◌, ℕ, ◌<◌, ◌≤◌, true, List, length, map, inl, inr, Option, Some, None, Result, Ok, Err, refl, ap, sym, ◌∙◌, subst, arith}
+use Rattle.std.proofs.Common.{◌≡◌, ℕ, ◌<◌, ◌≤◌, true, List, length, map, Option, Some, None, Result, Ok, Err, ap, sym, ◌∙◌, subst, arith}
 use Rattle.std.specs.Prelude.{IfOk, IfSome}
 use Rattle.std.specs.List.{find}
 use Rattle.std.specs.Option.{option_map}
@@ -27,14 +27,13 @@ use Rattle.ajweave.specs.declared.status.Refusal.TheVariants.{ManyFiles, BigFile
 use Rattle.ajweave.specs.declared.stop.Stop.{Stop}
 use Rattle.ajweave.specs.declared.stop.Stop.TheVariants as stop
 use Rattle.ajweave.specs.declared.script.ScriptFile.{ScriptFile}
-use Rattle.ajweave.specs.declared.script.ScriptFile.TheVariants as scripts
 use Rattle.ajweave.specs.Answers.{most_names, in_folder}
 use Rattle.ajweave.specs.Runs.{Seen, files_under, Refused, Ran, NotTaken, Answers, ReadsScript, ComesTo}
-use Rattle.ajweave.specs.Steps.{OnStop, IsRefusal, IsNoWriteStop, most_bytes, IsBig, Settles, IsScriptFile, IsMissingFile, ReadsScriptFile, WereRead, IsClassRefusal, IsRunRefusal, RunEnds, EndsOfRead, EndsMissing, seen_of}
+use Rattle.ajweave.specs.Steps.{OnStop, IsRefusal, most_bytes, IsBig, Settles, IsScriptFile, ReadsScriptFile, WereRead, IsClassRefusal, IsRunRefusal, RunEnds, EndsOfRead, seen_of}
 use Rattle.ajweave.proofs.Cut.{cut, IsFirst-from_cut, whole-from_cut}
 use Rattle.ajweave.proofs.Reading.{IsCut}
 use Rattle.ajweave.proofs.Scripts.{reads_script}
-use Rattle.ajweave.proofs.Settling.{settle_many, settle_big, settle_script, settle_class, settle_world, settle_entry, settle_ran}
+use Rattle.ajweave.proofs.Settling.{settle_big, settle_script, settle_class, settle_world, settle_entry, settle_ran}
 
 -- ---- a step that stopped
 
@@ -54,26 +53,6 @@ refused_ends P run files stop.Read by h = absurd h
 refused_ends P run files stop.Write by h = absurd h
 refused_ends P run files (stop.Refused refusal) by h = by refusal h
 refused_ends P run files stop.Memory by h = tt
-
-too_many : (run : RunCommand) (held : Option Files) (refusal : Refusal) → refusal ≡ ManyFiles → IfSome held (λ files. most_names < length (names_under run.input files)) → IfSome held (λ files. IsRefusedAlone run files refusal)
-too_many run None refusal is h = tt
-too_many run (Some files) refusal is h = subst (IsRefusedAlone run files) (sym is) (settle_many run files h)
-
--- before all was read
-pub reading_ends : (run : RunCommand) (held : Option Files) (fault : Stop) → IsNoWriteStop (λ refusal. (refusal ≡ ManyFiles) × IfSome held (λ files. most_names < length (names_under run.input files))) fault → RunEnds (Err fault) run held
-reading_ends run held stop.Read h = tt
-reading_ends run held stop.Write h = absurd h
-reading_ends run held (stop.Refused refusal) h = too_many run held refusal h.0 h.1
-reading_ends run held stop.Memory h = tt
-
--- when all was read
-pub read_ends : (run : RunCommand) (held : Option Files) (inputs : Files) (file : ScriptFile) (ended : Result Report Stop) → IfSome held (λ files. WereRead run.input run.script files inputs file) → EndsOfRead ended run inputs file → OnStop ended (IsRefusal (λ refusal. Unit {0})) → RunEnds ended run held
-read_ends run (Some files) inputs file ended w h stopped = h files w
-read_ends run None inputs file (Ok report) w h stopped = tt
-read_ends run None inputs file (Err stop.Read) w h stopped = tt
-read_ends run None inputs file (Err stop.Write) w h stopped = absurd stopped
-read_ends run None inputs file (Err (stop.Refused refusal)) w h stopped = tt
-read_ends run None inputs file (Err stop.Memory) w h stopped = tt
 
 -- ---- what was read
 
@@ -217,35 +196,3 @@ run_ends run inputs file classes answers (Ok report) t same read whole stopped f
 run_ends run inputs file classes answers (Err fault) t same read whole stopped files w =
     refused_ends (IsRunRefusal classes run.entry run.word) run files fault
     (λ refusal. run_refused run files classes answers refusal (loaded run files inputs file classes answers t same read w)) stopped
-
--- ---- the ends where the file of the script is missing
-
-abbrev report_so : Refusal → Result Report Stop
-report_so refusal = Err (stop.Refused refusal)
-
-missing_big : (folder : List ℕ) (inputs : Files) (refusal : Refusal) → IsBig folder inputs refusal → EndsMissing (report_so refusal)
-missing_big folder inputs ManyFiles h = absurd h
-missing_big folder inputs (BigFile name) h = inl (name, inl refl)
-missing_big folder inputs (NoScript name) h = absurd h
-missing_big folder inputs (Script name line) h = absurd h
-missing_big folder inputs (Class name fault) h = absurd h
-missing_big folder inputs (World fault) h = absurd h
-missing_big folder inputs (NotBuilt name) h = absurd h
-missing_big folder inputs (NoEntry word) h = absurd h
-
-pub sizes_missing : (folder : List ℕ) (inputs : Files) (fault : Stop) → IsRefusal (IsBig folder inputs) fault → EndsMissing (Err fault)
-sizes_missing folder inputs stop.Read h = absurd h
-sizes_missing folder inputs stop.Write h = absurd h
-sizes_missing folder inputs (stop.Refused refusal) h = missing_big folder inputs refusal h
-sizes_missing folder inputs stop.Memory h = inr refl
-
-same_refusal : (a b : Refusal) → NotTaken a ≡ NotTaken b → a ≡ b
-same_refusal a b h = cc
-
-pub script_missing : (file : ScriptFile) (fault : Stop) → IsMissingFile file → IsRefusal (λ refusal. Settles (ReadsScriptFile file) (NotTaken refusal)) fault → EndsMissing (Err fault)
-script_missing file stop.Read m h = absurd h
-script_missing file stop.Write m h = absurd h
-script_missing scripts.Unnamed (stop.Refused refusal) m h = absurd m
-script_missing (scripts.Missing name) (stop.Refused refusal) m h = inl (name, inr (ap report_so (same_refusal refusal (NoScript name) h.holds)))
-script_missing (scripts.Found file) (stop.Refused refusal) m h = absurd m
-script_missing file stop.Memory m h = inr refl

@@ -1,13 +1,11 @@
 -- What a run answers, from how its command ended and what was printed.
 use Rattle.std.proofs.Common.{◌≡◌, ◌≢◌, ◌↔◌, ℕ, ◌⊎◌, inl, inr, List, [], ◌∷◌, Option, Some, None, Result, Ok, Err, refl, sym, subst, arith}
-use Rattle.std.specs.Prelude.{IfSome, IsSome, MatchOption}
+use Rattle.std.specs.Prelude.{IfSome}
 use Rattle.std.specs.Option.{option_map}
 use Rattle.std.proofs.lemmas.Option.{IfSome_then}
 use Rattle.aj_outside.specs.Counts.{Rose, ComesWithRise}
 use Rattle.aj_outside.specs.Files.{Files}
 use Rattle.class_machine.specs.Events.{Ending, Returned, Uncaught, InitFailed, Exit, Unmodelled, Unresolved, ScriptEnds, Broken}
-use Rattle.jp_model.specs.Input.{is_class_file}
-use Rattle.machine_values.specs.declared.script.Answer.{Answer}
 use Rattle.machine_values.specs.Observed.{machine_ending}
 use Rattle.run_driver.specs.declared.report.Report.{Report}
 use Rattle.run_lines.specs.CommandWords.{RunCommand, AreRunWords}
@@ -20,8 +18,8 @@ use Rattle.ajweave.specs.declared.stop.Stop.{Stop}
 use Rattle.ajweave.specs.declared.stop.Stop.TheVariants as stop
 use Rattle.ajweave.specs.Words.{Folders, command_of, usage_line, refusal_line}
 use Rattle.ajweave.specs.Answers.{ReadFailed, AnswersRead, PrintsFor}
-use Rattle.ajweave.specs.Runs.{Seen, Outcome, Refused, Ran, ScriptRead, Answers, ReadsScript, RunsFiles, RunsAnswered, ComesTo, answer_of, answer_of_ending, AnswersRun, SaysRun, SayNoRun, HasScript, IsOfRun, IsObserved, FollowsMissing, files_under, seen_text}
-use Rattle.ajweave.specs.Steps.{RunEnds, EndsMissing, IsNoScript, ReportsRun, Settles, seen_of}
+use Rattle.ajweave.specs.Runs.{Outcome, Refused, Ran, ComesTo, answer_of, answer_of_ending, AnswersRun, SaysRun, SayNoRun, NamesScript, IsOfRunning, IsOfRun, IsObserved, MayFollow, FollowsMissing, seen_text}
+use Rattle.ajweave.specs.Steps.{OnStop, IsRunStop, RunEnds, EndsMissing, IsNoScript, ReportsRun, Settles, seen_of}
 use Rattle.ajweave.proofs.Answering.{Text, usage_never, usage_never_observed}
 
 abbrev pub RunEnded : Type 0
@@ -150,68 +148,18 @@ run_refused_only run held refusal ended e is =
     let settled : IfSome held (λ files. Settles (ComesTo run files) (Refused refusal)) = subst (λ (x : RunEnded). RunEnds x run held) is e in
     IfSome_then held settled (λ files s. s.holds)
 
+run_own : (refusal : Refusal) (ended : RunEnded) → OnStop ended IsRunStop → ended ≡ Err (stop.Refused refusal) → IsOfRunning refusal
+run_own refusal ended own is = subst (λ (x : RunEnded). OnStop x IsRunStop) is own
+
 -- ---- a script whose file is missing
 
-abbrev Named : Option (List ℕ) → Type 0
-Named script = (name : List ℕ) × (script ≡ Some name)
-
-named_some : (script : Option (List ℕ)) → IsSome script → Named script
-named_some (Some name) h = (name, refl)
-named_some None h = cc
-
-abbrev unscripted : List ℕ → Outcome
-unscripted name = Refused (refusals.NoScript name)
-
-entered_never : {M : Type 0} (method : Option M) (name word : List ℕ) (observe : M → Seen) → MatchOption method (unscripted name ≡ Refused (refusals.NoEntry word)) (λ m. unscripted name ≡ Ran (observe m)) → ⊥
-entered_never None name word observe h = cc
-entered_never (Some m) name word observe h = cc
-
-files_never : (run : RunCommand) (inputs : Files) (answers : List Answer) (name : List ℕ) → RunsFiles run inputs answers (unscripted name) → ⊥
-files_never run inputs answers name (inl (other, fault, first, is)) = cc
-files_never run inputs answers name (inr (read, inl (fault, first, is))) = cc
-files_never run inputs answers name (inr (read, inr (sound, from))) = entered_never _ name run.word _ from
-
--- where no script is named, none is missing
-unscripted_never : (run : RunCommand) (files : Files) (name : List ℕ) → run.script ≡ None → ComesTo run files (unscripted name) → ⊥
-unscripted_never run files name none (inl (many, is)) = cc
-unscripted_never run files name none (inr (few, inl (other, first, is))) = cc
-unscripted_never run files name none (inr (few, inr (small, (read, reads, answered)))) =
-    let inputs : Files = files_under is_class_file run.input files in
-    let same : read ≡ Answers [] = subst (λ (o : Option (List ℕ)). ReadsScript o files read) none reads in
-    files_never run inputs [] name (subst (λ (x : ScriptRead). RunsAnswered run inputs x (unscripted name)) same answered)
-
-named_told : (run : RunCommand) (files : Files) (name : List ℕ) → ComesTo run files (unscripted name) → Named run.script
-named_told run files name h = by run.script refl
+-- the answer of a run at which the file of the script alone is missing
+run_missing : (words : List (List ℕ)) (run : RunCommand) (ended : RunEnded) (result : Status) (before now : Text) → AreRunWords words run → ReportsRun ended result before now → EndsMissing run.script ended → FollowsMissing words result before now
+run_missing words run ended result before now says r m = record { run = run; says = says; name = m.name; named = m.named; answers = by m.name m.ends }
   where
-    by : (script : Option (List ℕ)) → run.script ≡ script → Named script
-    by None none = absurd (unscripted_never run files name none h)
-    by (Some script) is = (script, refl)
-
--- on a shelf that doesn't tell it is named, since its file was missing
-run_named : (run : RunCommand) (held : Option Files) (name : List ℕ) (ended : RunEnded) (missing missing_now : ℕ) → RunEnds ended run held → ended ≡ Err (stop.Refused (refusals.NoScript name)) → (held ≡ None → Rose missing missing_now → (ended ≡ Err stop.Read) ⊎ (IsSome run.script × EndsMissing ended)) → Rose missing missing_now → Named run.script
-run_named run None name ended missing missing_now e is missed rose = by (missed refl rose)
-  where
-    by : (ended ≡ Err stop.Read) ⊎ (IsSome run.script × EndsMissing ended) → Named run.script
-    by (inl read) = cc
-    by (inr p) = named_some run.script p.0
-run_named run (Some files) name ended missing missing_now e is missed rose =
-    named_told run files name (run_refused_only run (Some files) (refusals.NoScript name) ended e is)
-
--- the answer of a run at which the file of a script alone is missing
-run_missing : (ended : RunEnded) (result : Status) (before now : Text) → ReportsRun ended result before now → EndsMissing ended → FollowsMissing result
-run_missing ended result before now r (inl (name, inl is)) = by (printed_answers (status.Refused (refusals.BigFile name)) (refusal_line (refusals.BigFile name)) result before now (subst (λ (x : RunEnded). ReportsRun x result before now) is r))
-  where
-    by : (result ≡ status.Refused (refusals.BigFile name)) ⊎ ((result ≡ status.PrintFault) ⊎ (result ≡ status.OutOfMemory)) → FollowsMissing result
-    by (inl d) = inl (name, inl d)
-    by (inr d) = inr d
-run_missing ended result before now r (inl (name, inr is)) = by (printed_answers (status.Refused (refusals.NoScript name)) (refusal_line (refusals.NoScript name)) result before now (subst (λ (x : RunEnded). ReportsRun x result before now) is r))
-  where
-    by : (result ≡ status.Refused (refusals.NoScript name)) ⊎ ((result ≡ status.PrintFault) ⊎ (result ≡ status.OutOfMemory)) → FollowsMissing result
-    by (inl d) = inl (name, inr d)
-    by (inr d) = inr d
-run_missing ended result before now r (inr is) =
-    let done : ReportsRun (Err stop.Memory) result before now = subst (λ (x : RunEnded). ReportsRun x result before now) is r in
-    inr (inr done.0)
+    by : (name : List ℕ) → ((refusal : Refusal) × MayFollow name refusal × (ended ≡ Err (stop.Refused refusal))) ⊎ (ended ≡ Err stop.Memory) → ((refusal : Refusal) × MayFollow name refusal × PrintsFor (status.Refused refusal) (refusal_line refusal) result before now) ⊎ ((result ≡ status.OutOfMemory) × (now ≡ before))
+    by name (inl (refusal, may, is)) = inl (refusal, may, subst (λ (x : RunEnded). ReportsRun x result before now) is r)
+    by name (inr is) = inr (subst (λ (x : RunEnded). ReportsRun x result before now) is r)
 
 -- ---- all that is said of words that are no weaving
 
@@ -220,10 +168,10 @@ pub record RunAnswered (words : List (List ℕ)) (held : Option Files) (result :
   pub usage_only : result ≡ status.Usage → SayNoRun words
   pub read_fault : result ≡ status.ReadFault → ReadFailed held faults faults_now missing missing_now
   pub read_failed : Rose faults faults_now → result ≡ status.ReadFault
-  pub read_missed : held ≡ None → Rose missing missing_now → (result ≡ status.ReadFault) ⊎ (HasScript words × FollowsMissing result)
+  pub read_missed : held ≡ None → Rose missing missing_now → (result ≡ status.ReadFault) ⊎ FollowsMissing words result before now
   pub never_written : result ≢ status.WriteFault
-  pub refused_only : (refusal : Refusal) → result ≡ status.Refused refusal → SaysRun words held (λ run files. ComesTo run files (Refused refusal))
-  pub no_script : (name : List ℕ) → result ≡ status.Refused (refusals.NoScript name) → HasScript words × Rose missing missing_now
+  pub refused_only : (refusal : Refusal) → result ≡ status.Refused refusal → SaysRun words held (λ run files. ComesTo run files (Refused refusal)) × IsOfRunning refusal
+  pub no_script : (name : List ℕ) → result ≡ status.Refused (refusals.NoScript name) → NamesScript words name × Rose missing missing_now
   pub never_done : result ≢ status.Done
   pub ran : (run : RunCommand) → AreRunWords words run → AnswersRun run held result before now
   pub ran_exactly : (run : RunCommand) → AreRunWords words run → IfSome held (λ files. (outcome : Outcome) → ComesTo run files outcome → AnswersRead (answer_of outcome) result)
@@ -234,23 +182,20 @@ pub record IsRunBy (words : List (List ℕ)) (held : Option Files) (run : RunCom
   pub says : AreRunWords words run
   pub only : IsOfNoOther (AreRunWords words) run
   pub ends : RunEnds ended run held
+  pub own : OnStop ended IsRunStop
   pub read : ended ≡ Err stop.Read → ReadFailed held faults faults_now missing missing_now
   pub failed : Rose faults faults_now → ended ≡ Err stop.Read
-  pub missed : held ≡ None → Rose missing missing_now → (ended ≡ Err stop.Read) ⊎ (IsSome run.script × EndsMissing ended)
-  pub lost : IsNoScript ended → Rose missing missing_now
+  pub missed : held ≡ None → Rose missing missing_now → (ended ≡ Err stop.Read) ⊎ EndsMissing run.script ended
+  pub lost : (name : List ℕ) → IsNoScript name ended → (run.script ≡ Some name) × Rose missing missing_now
 
-script_said : (words : List (List ℕ)) (run : RunCommand) → AreRunWords words run → Named run.script → HasScript words
-script_said words run says named = record { run = run; says = says; name = named.0; named = named.1 }
-
-missed_of : (words : List (List ℕ)) (run : RunCommand) (ended : RunEnded) (result : Status) (before now : Text) → AreRunWords words run → ReportsRun ended result before now → (ended ≡ Err stop.Read) ⊎ (IsSome run.script × EndsMissing ended) → (result ≡ status.ReadFault) ⊎ (HasScript words × FollowsMissing result)
+missed_of : (words : List (List ℕ)) (run : RunCommand) (ended : RunEnded) (result : Status) (before now : Text) → AreRunWords words run → ReportsRun ended result before now → (ended ≡ Err stop.Read) ⊎ EndsMissing run.script ended → (result ≡ status.ReadFault) ⊎ FollowsMissing words result before now
 missed_of words run ended result before now says r (inl read) = inl ((run_read ended result before now r).1 read)
-missed_of words run ended result before now says r (inr (some, missing)) =
-    inr (script_said words run says (named_some run.script some), run_missing ended result before now r missing)
+missed_of words run ended result before now says r (inr missing) = inr (run_missing words run ended result before now says r missing)
 
-unscripted_of : (words : List (List ℕ)) (held : Option Files) (run : RunCommand) (ended : RunEnded) (name : List ℕ) (faults faults_now missing missing_now : ℕ) → IsRunBy words held run ended faults faults_now missing missing_now → ended ≡ Err (stop.Refused (refusals.NoScript name)) → HasScript words × Rose missing missing_now
+unscripted_of : (words : List (List ℕ)) (held : Option Files) (run : RunCommand) (ended : RunEnded) (name : List ℕ) (faults faults_now missing missing_now : ℕ) → IsRunBy words held run ended faults faults_now missing missing_now → ended ≡ Err (stop.Refused (refusals.NoScript name)) → NamesScript words name × Rose missing missing_now
 unscripted_of words held run ended name faults faults_now missing missing_now h is =
-    let rose : Rose missing missing_now = h.lost (name, is) in
-    (script_said words run h.says (run_named run held name ended missing missing_now h.ends is h.missed rose), rose)
+    let lost = h.lost name is in
+    (record { run = run; says = h.says; named = lost.0 }, lost.1)
 
 -- of a run
 pub RunAnswered-run : (words : List (List ℕ)) (held : Option Files) (run : RunCommand) (ended : RunEnded) (result : Status) (before now : Text) (faults faults_now missing missing_now : ℕ) → IsRunBy words held run ended faults faults_now missing missing_now → ReportsRun ended result before now → RunAnswered words held result before now faults faults_now missing missing_now
@@ -261,7 +206,9 @@ RunAnswered-run words held run ended result before now faults faults_now missing
   read_failed = λ rose. (run_read ended result before now r).1 (h.failed rose);
   read_missed = λ untold rose. missed_of words run ended result before now h.says r (h.missed untold rose);
   never_written = run_never_written run held ended result before now r h.ends;
-  refused_only = λ refusal d. (run, h.says, run_refused_only run held refusal ended h.ends (run_refused refusal ended result before now r d));
+  refused_only = λ refusal d.
+      let is = run_refused refusal ended result before now r d in
+      ((run, h.says, run_refused_only run held refusal ended h.ends is), run_own refusal ended h.own is);
   no_script = λ name d. unscripted_of words held run ended name faults faults_now missing missing_now h (run_refused (refusals.NoScript name) ended result before now r d);
   never_done = run_never_done ended result before now r;
   ran = λ other says. subst (λ (x : RunCommand). AnswersRun x held result before now) (sym (h.only other says)) (run_answers run held ended result before now r h.ends);

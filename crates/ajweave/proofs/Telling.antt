@@ -3,7 +3,6 @@ use Rattle.std.proofs.Common.{◌≡◌, ℕ, List, [], ◌∷◌, ◌++◌, map
 use Rattle.std.specs.List.{flat_map}
 use Rattle.std.specs.Option.{option_map}
 use Rattle.class_machine.specs.Lines.{event_text}
-use Rattle.class_machine.specs.Events as events
 use Rattle.machine_values.specs.declared.observed.Event.{Event}
 use Rattle.machine_values.specs.declared.observed.Ending.{Ending}
 use Rattle.machine_values.specs.Observed.{machine_event, machine_ending}

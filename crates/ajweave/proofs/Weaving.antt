@@ -1,8 +1,8 @@
 -- How weaving ends, from how its steps ended.
-use Rattle.std.proofs.Common.{◌≡◌, ◌≢◌, ◌↔◌, ℕ, ◌<◌, ◌≤◌, inl, inr, List, length, map, Option, Some, None, Result, Ok, Err, ap, sym, ◌∙◌, subst, arith, get_or, slice_get}
+use Rattle.std.proofs.Common.{◌≡◌, ◌≢◌, ◌↔◌, ℕ, ◌<◌, inl, inr, List, length, map, Option, Some, None, Result, Ok, Err, ap, sym, ◌∙◌, subst, arith, get_or, slice_get}
 use Rattle.std.specs.Prelude.{IfSome, OnOk}
 use Rattle.std.specs.Option.{option_map}
-use Rattle.std.specs.List.{filter, find}
+use Rattle.std.specs.List.{find}
 use Rattle.std.proofs.lemmas.List.{length-map}
 use Rattle.std.proofs.lemmas.Option.{same_Some, slice_get_within, slice_get-map, slice_get-get_or}
 use Rattle.aj_outside.specs.Counts.{Rose, ComesWithRise, last_count}
@@ -18,7 +18,7 @@ use Rattle.ajweave.specs.declared.status.Refusal.TheVariants.{ManyFiles, BigFile
 use Rattle.ajweave.specs.declared.stop.Stop.{Stop}
 use Rattle.ajweave.specs.declared.stop.Stop.TheVariants as stop
 use Rattle.ajweave.specs.Words.{Folders}
-use Rattle.ajweave.specs.Answers.{most_names, in_folder, ReadFailed, AreReadable, IsRefused, IsValid, WritesWeaving, CommandedTo, CommandedSome, PutsSome}
+use Rattle.ajweave.specs.Answers.{in_folder, ReadFailed, AreReadable, IsRefused, IsValid, WritesWeaving, CommandedTo, CommandedSome, PutsSome}
 use Rattle.ajweave.specs.Steps.{OnStop, IsRefusal, IsReadStop, IsWriteStop, IsNoWriteStop, most_bytes, IsMany, IsBig, IsInputRefusal, Ends, PutsSomeTold}
 use Rattle.ajweave.proofs.Cut.{cut, IsFirst-from_cut, whole-from_cut}
 use Rattle.ajweave.proofs.Reading.{IsCut}

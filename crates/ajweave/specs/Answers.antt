@@ -86,6 +86,15 @@ IsRefused folder files (refusal.NotBuilt name) =
 -- no weaving's
 IsRefused folder files _ = ⊥
 
+-- it is one of the refusals that a weaving has
+abbrev pub IsOfWeaving : Refusal → Type 0
+IsOfWeaving refusal.ManyFiles = Unit {0}
+IsOfWeaving (refusal.BigFile name) = Unit {0}
+IsOfWeaving (refusal.Class name fault) = Unit {0}
+IsOfWeaving (refusal.World fault) = Unit {0}
+IsOfWeaving (refusal.NotBuilt name) = Unit {0}
+IsOfWeaving _ = ⊥
+
 -- the input is valid: none of these holds
 pub record IsValid (folder : List ℕ) (files : Files) : Type 0 where
   pub readable : AreReadable folder files

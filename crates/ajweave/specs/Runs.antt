@@ -1,5 +1,5 @@
 -- What a run of the class files of a folder comes to, and what it answers and prints.
-use Rattle.std.specs.Prelude.{◌≡◌, ℕ, ◌<◌, ◌≤◌, ◌⊎◌, ◌&&◌, Bool, MatchBool, MatchOption, IfSome, true, List, [], ◌∷◌, ◌++◌, length, map, codes, Option, Some, None}
+use Rattle.std.specs.Prelude.{◌≡◌, ℕ, ◌<◌, ◌≤◌, ◌⊎◌, ◌&&◌, Bool, MatchBool, MatchOption, IfSome, true, List, [], ◌++◌, length, map, codes, Option, Some, None}
 use Rattle.std.specs.List.{filter, find, flat_map}
 use Rattle.aj_outside.specs.Files.{Files, file_at, is_under, names_under}
 use Rattle.boot_library.specs.Heads.{library_heads}
@@ -26,7 +26,7 @@ use Rattle.ajweave.specs.declared.status.Refusal.TheVariants as refusals
 use Rattle.ajweave.specs.declared.status.Status.{Status}
 use Rattle.ajweave.specs.declared.status.Status.TheVariants as status
 use Rattle.ajweave.specs.Words.{command_of, refusal_line}
-use Rattle.ajweave.specs.Answers.{most_names, in_folder, Commanded, IsRefused, PrintsFor}
+use Rattle.ajweave.specs.Answers.{most_names, in_folder, Commanded, IsRefused, IsOfWeaving, PrintsFor}
 
 -- the files under a folder whose names pass the test, in byte order of the names
 abbrev pub files_under : (List ℕ → Bool) → List ℕ → Files → Files
@@ -153,20 +153,30 @@ pub record AreNoCommand (words : List (List ℕ)) : Type 0 where
   pub no_weaving : command_of words ≡ None
   pub no_run : SayNoRun words
 
--- the words say a run with a script
-pub record HasScript (words : List (List ℕ)) : Type 0 where
+-- the words say a run with a script of this name
+pub record NamesScript (words : List (List ℕ)) (name : List ℕ) : Type 0 where
   pub run : RunCommand
   pub says : AreRunWords words run
-  pub name : List ℕ
   pub named : run.script ≡ Some name
 
 -- ---- when each answer comes
 
--- the input is refused so, that of a weaving or that of a run
+-- it is one of the refusals that a run has
+abbrev pub IsOfRunning : Refusal → Type 0
+IsOfRunning refusals.ManyFiles = Unit {0}
+IsOfRunning (refusals.BigFile name) = Unit {0}
+IsOfRunning (refusals.NoScript name) = Unit {0}
+IsOfRunning (refusals.Script name line) = Unit {0}
+IsOfRunning (refusals.Class name fault) = Unit {0}
+IsOfRunning (refusals.World fault) = Unit {0}
+IsOfRunning (refusals.NoEntry word) = Unit {0}
+IsOfRunning _ = ⊥
+
+-- The input is refused so: that of a weaving, by a refusal that a weaving has, or that of a run, by one that a run has.
 abbrev pub RefusesInput : List (List ℕ) → Option Files → Refusal → Type 0
 RefusesInput words held refusal =
-    Commanded (command_of words) held (λ folders files. IsRefused folders.input files refusal)
-    ⊎ SaysRun words held (λ run files. ComesTo run files (Refused refusal))
+    (Commanded (command_of words) held (λ folders files. IsRefused folders.input files refusal) × IsOfWeaving refusal)
+    ⊎ (SaysRun words held (λ run files. ComesTo run files (Refused refusal)) × IsOfRunning refusal)
 
 -- the answer is that of a run that was observed
 abbrev pub IsOfRun : Status → Type 0
@@ -185,9 +195,19 @@ IsOfRun _ = ⊥
 abbrev pub IsObserved : Status → RunCommand → Files → Type 0
 IsObserved result run files = (seen : Seen) × (result ≡ answer_of_ending seen.ending) × ComesTo run files (Ran seen)
 
--- The answers that may come where, on a shelf that doesn't tell, a file was missing in a run with a script: that of the script, or
--- of one that is listed and gone.
-abbrev pub FollowsMissing : Status → Type 0
-FollowsMissing result =
-    ((name : List ℕ) × ((result ≡ status.Refused (refusals.BigFile name)) ⊎ (result ≡ status.Refused (refusals.NoScript name))))
-    ⊎ ((result ≡ status.PrintFault) ⊎ (result ≡ status.OutOfMemory))
+-- the refusals that may follow where the file of the script of this name is missing: a class file that is too long is told first
+abbrev pub MayFollow : List ℕ → Refusal → Type 0
+MayFollow name (refusals.BigFile other) = Unit {0}
+MayFollow name (refusals.NoScript other) = other ≡ name
+MayFollow name _ = ⊥
+
+-- What is answered and printed of a run with a script where, on a shelf that doesn't tell, a file was missing that was not listed: it
+-- is that of the script. A class file that is too long is told first, and memory may run out before there is a line to print.
+pub record FollowsMissing (words : List (List ℕ)) (result : Status) (before now : Option (List ℕ)) : Type 0 where
+  pub run : RunCommand
+  pub says : AreRunWords words run
+  pub name : List ℕ
+  pub named : run.script ≡ Some name
+  pub answers :
+      ((refusal : Refusal) × MayFollow name refusal × PrintsFor (status.Refused refusal) (refusal_line refusal) result before now)
+      ⊎ ((result ≡ status.OutOfMemory) × (now ≡ before))

@@ -25,8 +25,8 @@ use Rattle.ajweave.specs.declared.input.Kept.TheVariants as kept
 use Rattle.ajweave.specs.declared.script.ScriptFile.{ScriptFile}
 use Rattle.ajweave.specs.declared.script.ScriptFile.TheVariants as scripts
 use Rattle.ajweave.specs.Words.{Folders, refusal_line}
-use Rattle.ajweave.specs.Answers.{most_names, in_folder, IsRefused, IsValid, WritesWeaving, CommandedTo, CommandedSome, PutsSome, PrintsFor}
-use Rattle.ajweave.specs.Runs.{Seen, files_under, Refused, Ran, ScriptRead, NotTaken, Answers, ReadsFile, ComesTo, answer_of_ending, seen_text}
+use Rattle.ajweave.specs.Answers.{most_names, in_folder, IsRefused, IsOfWeaving, IsValid, WritesWeaving, CommandedTo, CommandedSome, PutsSome, PrintsFor}
+use Rattle.ajweave.specs.Runs.{Seen, files_under, Refused, Ran, ScriptRead, NotTaken, Answers, ReadsFile, ComesTo, answer_of_ending, seen_text, IsOfRunning, MayFollow}
 
 -- ---- why a step stopped
 
@@ -111,15 +111,6 @@ IsInputRefusal folder inputs (World fault) = HaveFirstFault inputs fault
 IsInputRefusal folder inputs (NotBuilt name) = IsFirstUnbuilt inputs (in_folder folder name)
 IsInputRefusal folder inputs _ = ⊥
 
--- it is one of the refusals that a weaving has
-abbrev pub IsOfWeaving : Refusal → Type 0
-IsOfWeaving ManyFiles = Unit {0}
-IsOfWeaving (BigFile name) = Unit {0}
-IsOfWeaving (Class name fault) = Unit {0}
-IsOfWeaving (World fault) = Unit {0}
-IsOfWeaving (NotBuilt name) = Unit {0}
-IsOfWeaving _ = ⊥
-
 -- it stopped at a refusal that a weaving has, or in another way
 abbrev pub IsWeavingStop : Stop → Type 0
 IsWeavingStop fault = MatchStop fault IsOfWeaving (Unit {0}) (Unit {0}) (Unit {0})
@@ -182,6 +173,12 @@ IsScriptFile script files (scripts.Missing name) = (script ≡ Some name) × (fi
 IsScriptFile script files (scripts.Found file) =
     (script ≡ Some file.name) × ((bytes : List ℕ) × (file_at files file.name ≡ Some bytes) × (file.bytes.items ≡ take most_bytes bytes))
 
+-- what was found is of the script that is named, on any shelf
+abbrev pub IsOfScript : Option (List ℕ) → ScriptFile → Type 0
+IsOfScript script scripts.Unnamed = script ≡ None
+IsOfScript script (scripts.Missing name) = script ≡ Some name
+IsOfScript script (scripts.Found file) = script ≡ Some file.name
+
 -- a script is named, and the shelf has no file of its name
 abbrev pub IsMissingFile : ScriptFile → Type 0
 IsMissingFile (scripts.Missing name) = Unit {0}
@@ -229,15 +226,19 @@ RunEnds (Err fault) run held =
 abbrev pub EndsOfRead : Result Report Stop → RunCommand → Files → ScriptFile → Type 0
 EndsOfRead result run inputs file = (files : Files) → WereRead run.input run.script files inputs file → RunEnds result run (Some files)
 
--- it ended at a script whose file is missing
-abbrev pub IsNoScript : Result Report Stop → Type 0
-IsNoScript result = (name : List ℕ) × (result ≡ Err (stop.Refused (NoScript name)))
+-- it stopped at a refusal that a run has, or in another way
+abbrev pub IsRunStop : Stop → Type 0
+IsRunStop fault = MatchStop fault IsOfRunning (Unit {0}) (Unit {0}) (Unit {0})
 
--- it ended in a way that it may where the file of a script alone is missing
-abbrev pub EndsMissing : Result Report Stop → Type 0
-EndsMissing result =
-    ((name : List ℕ) × ((result ≡ Err (stop.Refused (BigFile name))) ⊎ (result ≡ Err (stop.Refused (NoScript name)))))
-    ⊎ (result ≡ Err stop.Memory)
+-- it ended at the script of this name, whose file is missing
+abbrev pub IsNoScript : List ℕ → Result Report Stop → Type 0
+IsNoScript name result = result ≡ Err (stop.Refused (NoScript name))
+
+-- a run with a script ended in a way that it may where the file of that alone is missing
+pub record EndsMissing (script : Option (List ℕ)) (result : Result Report Stop) : Type 0 where
+  pub name : List ℕ
+  pub named : script ≡ Some name
+  pub ends : ((refusal : Refusal) × MayFollow name refusal × (result ≡ Err (stop.Refused refusal))) ⊎ (result ≡ Err stop.Memory)
 
 -- The answer to how a run ended, and what was printed.
 abbrev pub ReportsRun : Result Report Stop → Status → Option (List ℕ) → Option (List ℕ) → Type 0

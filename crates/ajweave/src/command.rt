@@ -1,7 +1,7 @@
 //! The words of the command line.
 
-ghost use Rattle.std.specs.Prelude.{◌≡◌, List, map, Option, Some, None, MatchOption};
-ghost use Rattle.ajweave.specs.Words.{texts, command_of, Folders};
+ghost use Rattle.std.specs.Prelude.{◌≡◌, Option, Some, None, MatchOption};
+ghost use Rattle.ajweave.specs.Words.{texts, command_of};
 
 /// `weave IN OUT`: the folder to read, and the one to write.
 #[derive(Clone, Copy, Debug)]

@@ -1,5 +1,5 @@
 //! Reading the input: the list of names, and then each file of a class or an aspect.
-ghost use Rattle.std.specs.Prelude.{◌≡◌, ◌↔◌, ◌<◌, ℕ, List, map, Option, Some, None, IfOk, IfSome, OnOk, IsSome, Err, true, ◌≤◌, ◌++◌, ◌∷◌, [], length, slice_get};
+ghost use Rattle.std.specs.Prelude.{◌≡◌, ◌↔◌, ◌<◌, List, map, None, IfOk, IfSome, OnOk, IsSome, Err, true, ◌≤◌, ◌++◌, ◌∷◌, [], length};
 ghost use Rattle.std.specs.List.{filter, find, All};
 ghost use Rattle.aj_outside.specs.Counts.{ComesWithRise, last_count};
 ghost use Rattle.aj_outside.specs.Files.{is_under, file_at, names_under};
@@ -11,7 +11,7 @@ ghost use Rattle.ajweave.specs.Steps.{OnStop, IsRefusal, IsReadStop, IsNoWriteSt
 
 use crate::status::Refusal;
 use crate::stop::{Stop, name_within};
-use aj_outside::{Name, Shelf, ShelfFault};
+use aj_outside::{Name, Shelf};
 use class_format::ClassFault;
 use std::alloc::Global;
 use weave_plan::{NamedFile, ReadFault};

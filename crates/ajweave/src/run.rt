@@ -1,9 +1,9 @@
 //! `run IN ENTRY STEPS [SCRIPT]`, but for what it prints: all reads come first, of the list, of each file of
 //! a class and of the script, and then all is done in memory.
-ghost use Rattle.std.specs.Prelude.{◌≡◌, ◌<◌, ◌⊎◌, ℕ, List, length, None, IfOk, IfSome, IsSome, OnOk, Err, true, IsTrue};
+ghost use Rattle.std.specs.Prelude.{◌≡◌, ◌<◌, ◌⊎◌, ℕ, List, length, Some, None, IfOk, IfSome, OnOk, Err, true, IsTrue};
 ghost use Rattle.std.specs.List.{All, AllByRecursion, find};
 ghost use Rattle.std.specs.Option.{option_map};
-ghost use Rattle.aj_outside.specs.Counts.{ComesWithRise, Rose, last_count};
+ghost use Rattle.aj_outside.specs.Counts.{Rose, last_count};
 ghost use Rattle.aj_outside.specs.Files.{is_under, names_under};
 ghost use Rattle.class_file.specs.WellFormed.{is_well_formed};
 ghost use Rattle.weave_plan.specs.Faults.{is_faulty};
@@ -12,7 +12,8 @@ ghost use Rattle.weave_plan.specs.Worlds.{classes_of};
 ghost use Rattle.machine_steps.specs.Runs.{answers_left};
 ghost use Rattle.run_plan.specs.Running.{RunsFrom};
 ghost use Rattle.ajweave.specs.Answers.{ReadFailed, most_names};
-ghost use Rattle.ajweave.specs.Steps.{OnStop, IsRefusal, IsNoWriteStop, IsClassRefusal, IsRunRefusal, IsMissingFile, FindsNoScript, WereRead, RunEnds, EndsOfRead, EndsMissing, IsNoScript, run_of};
+ghost use Rattle.ajweave.specs.Runs.{IsOfRunning};
+ghost use Rattle.ajweave.specs.Steps.{OnStop, IsRefusal, IsNoWriteStop, IsRunStop, IsClassRefusal, IsRunRefusal, IsOfScript, IsMissingFile, FindsNoScript, WereRead, RunEnds, EndsOfRead, EndsMissing, IsNoScript, run_of};
 
 use crate::input::{Kept, check_sizes, listed, no_class, read_inputs};
 use crate::script::{ScriptFile, script_file, script_of};
@@ -39,12 +40,13 @@ pub(crate) fn run_command<S: Shelf>(
     requires can_read { S.faults shelf.old < last_count }
     requires can_miss { S.missing shelf.old < last_count }
     ensures ended { RunEnds result (run_of words.entry) (S.held shelf.old) }
+    ensures own { OnStop result IsRunStop }
     ensures kept { S.held shelf.new ≡ S.held shelf.old }
     ensures writes { S.write_faults shelf.new ≡ S.write_faults shelf.old }
     ensures read { result ≡ Err Stop.Read → ReadFailed (S.held shelf.old) (S.faults shelf.old) (S.faults shelf.new) (S.missing shelf.old) (S.missing shelf.new) }
     ensures failed { Rose (S.faults shelf.old) (S.faults shelf.new) → result ≡ Err Stop.Read }
-    ensures missed { S.held shelf.old ≡ None → Rose (S.missing shelf.old) (S.missing shelf.new) → (result ≡ Err Stop.Read) ⊎ (IsSome (run_of words.entry).script × EndsMissing result) }
-    ensures no_script { IsNoScript result → Rose (S.missing shelf.old) (S.missing shelf.new) }
+    ensures missed { S.held shelf.old ≡ None → Rose (S.missing shelf.old) (S.missing shelf.new) → (result ≡ Err Stop.Read) ⊎ EndsMissing (run_of words.entry).script result }
+    ensures no_script { (name : List ℕ) → IsNoScript name result → ((run_of words.entry).script ≡ Some name) × Rose (S.missing shelf.old) (S.missing shelf.new) }
 {
     let (inputs, script) = read_all(alloc, words.input, words.script, shelf)?;
     run_read(alloc, words, inputs.as_slice(), script)
@@ -64,11 +66,12 @@ fn read_all<S: Shelf>(
     requires can_read { S.faults shelf.old < last_count }
     requires can_miss { S.missing shelf.old < last_count }
     ensures given { IfOk result (λ found. IfSome (S.held shelf.old) (λ files. WereRead input.now (option_map (λ name. name.now) script.entry) files (files_of found.0.items) found.1)) }
+    ensures named { IfOk result (λ found. IsOfScript (option_map (λ name. name.now) script.entry) found.1) }
     ensures under { IfOk result (λ found. All (λ file. is_under input.now file.name ≡ true) found.0.items) }
     ensures stopped { OnStop result (IsNoWriteStop (λ refusal. (refusal ≡ Refusal.ManyFiles) × IfSome (S.held shelf.old) (λ files. most_names < length (names_under input.now files)))) }
     ensures read { result ≡ Err Stop.Read → ReadFailed (S.held shelf.old) (S.faults shelf.old) (S.faults shelf.new) (S.missing shelf.old) (S.missing shelf.new) }
     ensures failed { Rose (S.faults shelf.old) (S.faults shelf.new) → result ≡ Err Stop.Read }
-    ensures missed { S.held shelf.old ≡ None → Rose (S.missing shelf.old) (S.missing shelf.new) → (result ≡ Err Stop.Read) ⊎ (IsSome (option_map (λ name. name.now) script.entry) × FindsNoScript result) }
+    ensures missed { S.held shelf.old ≡ None → Rose (S.missing shelf.old) (S.missing shelf.new) → (result ≡ Err Stop.Read) ⊎ FindsNoScript result }
     ensures no_script { FindsNoScript result → Rose (S.missing shelf.old) (S.missing shelf.new) }
     ensures writes { S.write_faults shelf.new ≡ S.write_faults shelf.old }
     ensures kept { S.held shelf.new ≡ S.held shelf.old }
@@ -90,10 +93,11 @@ fn run_read(
     script: ScriptFile,
 ) -> Result<Report, Stop>
     requires under { All (λ file. is_under words.input.now file.name ≡ true) inputs.now }
+    requires named { IsOfScript (run_of words).script script }
     ensures ended { EndsOfRead result (run_of words.entry) (files_of inputs.now) script }
-    ensures stopped { OnStop result (IsRefusal (λ refusal. Unit {0})) }
-    ensures missing { IsMissingFile script → EndsMissing result }
-    ensures no_script { IsNoScript result → IsMissingFile script }
+    ensures stopped { OnStop result (IsRefusal IsOfRunning) }
+    ensures missing { IsMissingFile script → EndsMissing (run_of words.entry).script result }
+    ensures no_script { (name : List ℕ) → IsNoScript name result → ((run_of words.entry).script ≡ Some name) × IsMissingFile script }
 {
     check_sizes(alloc, words.input, inputs)?;
     let script = script_of(alloc, script)?;

@@ -1,10 +1,10 @@
 //! The file of a script: it is read behind the input, and judged behind the sizes of that.
-ghost use Rattle.std.specs.Prelude.{◌≡◌, ◌<◌, ℕ, List, Some, IfOk, IfSome, IsSome, OnOk, Err};
+ghost use Rattle.std.specs.Prelude.{◌≡◌, ◌<◌, Some, IfOk, IfSome, Err};
 ghost use Rattle.std.specs.Option.{option_map};
 ghost use Rattle.aj_outside.specs.Counts.{ComesWithRise, last_count};
 ghost use Rattle.machine_steps.specs.Runs.{answers_left};
 ghost use Rattle.ajweave.specs.Runs.{NotTaken, Answers, ReadsFile};
-ghost use Rattle.ajweave.specs.Steps.{OnStop, IsRefusal, IsReadStop, IsScriptFile, IsMissing, ReadsScriptFile, Settles};
+ghost use Rattle.ajweave.specs.Steps.{OnStop, IsRefusal, IsReadStop, IsScriptFile, IsOfScript, IsMissing, ReadsScriptFile, Settles};
 
 use crate::input::MOST_BYTES;
 use crate::status::Refusal;
@@ -42,7 +42,7 @@ pub(crate) fn script_file<S: Shelf>(
     ensures stopped { OnStop result IsReadStop }
     ensures failed { ComesWithRise (result ≡ Err Stop.Read) (S.faults shelf.old) (S.faults shelf.new) }
     ensures missed { ComesWithRise (IsMissing result) (S.missing shelf.old) (S.missing shelf.new) }
-    ensures named { IsMissing result → IsSome (option_map (λ name. name.now) script.entry) }
+    ensures named { IfOk result (IsOfScript (option_map (λ name. name.now) script.entry)) }
     ensures writes { S.write_faults shelf.new ≡ S.write_faults shelf.old }
     ensures kept { S.held shelf.new ≡ S.held shelf.old }
 {
@@ -57,6 +57,7 @@ fn named_script<S: Shelf>(alloc: Global, name: &str, shelf: &mut S) -> Result<Sc
     requires can_read { S.faults shelf.old < last_count }
     requires can_miss { S.missing shelf.old < last_count }
     ensures found { IfOk result (λ file. IfSome (S.held shelf.old) (λ files. IsScriptFile (Some name.now) files file)) }
+    ensures named { IfOk result (IsOfScript (Some name.now)) }
     ensures stopped { OnStop result IsReadStop }
     ensures failed { ComesWithRise (result ≡ Err Stop.Read) (S.faults shelf.old) (S.faults shelf.new) }
     ensures missed { ComesWithRise (IsMissing result) (S.missing shelf.old) (S.missing shelf.new) }

@@ -4,7 +4,7 @@ ghost use Rattle.run_lines.specs.CommandWords.{RunCommand, AreRunWords};
 ghost use Rattle.ajweave.specs.declared.status.Refusal.{Refusal};
 ghost use Rattle.ajweave.specs.declared.status.Refusal.TheVariants.{NoScript};
 ghost use Rattle.ajweave.specs.Words.{texts, command_of, usage_line};
-ghost use Rattle.ajweave.specs.Runs.{Outcome, Refused, ComesTo, AnswersRun, answer_of, SaysRun, SayNoRun, AreNoCommand, HasScript, RefusesInput, IsOfRun, IsObserved, FollowsMissing};
+ghost use Rattle.ajweave.specs.Runs.{Outcome, Refused, ComesTo, AnswersRun, answer_of, SaysRun, SayNoRun, AreNoCommand, NamesScript, RefusesInput, IsOfRunning, IsOfRun, IsObserved, FollowsMissing};
 ghost use Rattle.ajweave.specs.Answers.{ReadFailed, AnswersPrinted, AnswersRead, AnswersDone, IsRefused, IsValid, WritesWeaving, BehavesAsWritten, WritesExactly, WritesUntouched, WritesDeclared, OnTold, Commanded, CommandedTo, CommandedSome, KeepsShelf, Prints, PrintsFor};
 
 use crate::command::command;
@@ -46,13 +46,14 @@ pub fn weaver_main<S: Shelf, O: Sink>(
     ensures usage_only { result ≡ Status.Usage → AreNoCommand (texts words.now) }
     ensures read_fault { result ≡ Status.ReadFault → ReadFailed (S.held shelf.old) (S.faults shelf.old) (S.faults shelf.new) (S.missing shelf.old) (S.missing shelf.new) }
     ensures read_failed { Rose (S.faults shelf.old) (S.faults shelf.new) → result ≡ Status.ReadFault }
-    // On a shelf that doesn't tell, a file was missing: one that was listed, or the file of a script.
-    ensures read_missed { S.held shelf.old ≡ None → Rose (S.missing shelf.old) (S.missing shelf.new) → (result ≡ Status.ReadFault) ⊎ (HasScript (texts words.now) × FollowsMissing result) }
+    // On a shelf that doesn't tell, a file was missing. Where it was listed, the read failed. Where it was
+    // not, it is that of the script; a class file that is too long is told first.
+    ensures read_missed { S.held shelf.old ≡ None → Rose (S.missing shelf.old) (S.missing shelf.new) → (result ≡ Status.ReadFault) ⊎ FollowsMissing (texts words.now) result (O.written out.old) (O.written out.new) }
     ensures write_fault { (result ≡ Status.WriteFault) ↔ Rose (S.write_faults shelf.old) (S.write_faults shelf.new) }
     ensures print_fault { (result ≡ Status.PrintFault) ↔ Rose (O.faults out.old) (O.faults out.new) }
     ensures refused { OnTold (command_of (texts words.now)) (S.held shelf.old) (λ folders files. (refusal : Refusal) → IsRefused folders.input files refusal → AnswersRead (Status.Refused refusal) result) }
     ensures refused_only { (refusal : Refusal) → result ≡ Status.Refused refusal → RefusesInput (texts words.now) (S.held shelf.old) refusal }
-    ensures no_script { (name : List ℕ) → result ≡ Status.Refused (NoScript name) → HasScript (texts words.now) × Rose (S.missing shelf.old) (S.missing shelf.new) }
+    ensures no_script { (name : List ℕ) → result ≡ Status.Refused (NoScript name) → NamesScript (texts words.now) name × Rose (S.missing shelf.old) (S.missing shelf.new) }
     ensures complete { OnTold (command_of (texts words.now)) (S.held shelf.old) (λ folders files. IsValid folders.input files → AnswersDone result) }
     ensures done_only { result ≡ Status.Done → Commanded (command_of (texts words.now)) (S.held shelf.old) (λ folders files. IsValid folders.input files) }
 
@@ -90,11 +91,11 @@ fn other_command<S: Shelf, O: Sink>(
     ensures usage_only { result ≡ Status.Usage → SayNoRun (texts words.now) }
     ensures read_fault { result ≡ Status.ReadFault → ReadFailed (S.held shelf.old) (S.faults shelf.old) (S.faults shelf.new) (S.missing shelf.old) (S.missing shelf.new) }
     ensures read_failed { Rose (S.faults shelf.old) (S.faults shelf.new) → result ≡ Status.ReadFault }
-    ensures read_missed { S.held shelf.old ≡ None → Rose (S.missing shelf.old) (S.missing shelf.new) → (result ≡ Status.ReadFault) ⊎ (HasScript (texts words.now) × FollowsMissing result) }
+    ensures read_missed { S.held shelf.old ≡ None → Rose (S.missing shelf.old) (S.missing shelf.new) → (result ≡ Status.ReadFault) ⊎ FollowsMissing (texts words.now) result (O.written out.old) (O.written out.new) }
     ensures write_fault { (result ≢ Status.WriteFault) × (S.write_faults shelf.new ≡ S.write_faults shelf.old) }
     ensures print_fault { ComesWithRise (result ≡ Status.PrintFault) (O.faults out.old) (O.faults out.new) }
-    ensures refused_only { (refusal : Refusal) → result ≡ Status.Refused refusal → SaysRun (texts words.now) (S.held shelf.old) (λ run files. ComesTo run files (Refused refusal)) }
-    ensures no_script { (name : List ℕ) → result ≡ Status.Refused (NoScript name) → HasScript (texts words.now) × Rose (S.missing shelf.old) (S.missing shelf.new) }
+    ensures refused_only { (refusal : Refusal) → result ≡ Status.Refused refusal → SaysRun (texts words.now) (S.held shelf.old) (λ run files. ComesTo run files (Refused refusal)) × IsOfRunning refusal }
+    ensures no_script { (name : List ℕ) → result ≡ Status.Refused (NoScript name) → NamesScript (texts words.now) name × Rose (S.missing shelf.old) (S.missing shelf.new) }
     ensures never_done { result ≢ Status.Done }
     ensures ran { (run : RunCommand) → AreRunWords (texts words.now) run → AnswersRun run (S.held shelf.old) result (O.written out.old) (O.written out.new) }
     ensures ran_exactly { (run : RunCommand) → AreRunWords (texts words.now) run → IfSome (S.held shelf.old) (λ files. (outcome : Outcome) → ComesTo run files outcome → AnswersRead (answer_of outcome) result) }

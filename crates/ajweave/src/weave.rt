@@ -1,6 +1,6 @@
 //! `weave IN OUT`, but for what it prints: all reads come first, then everything is made in memory,
 //! and then the files are written in byte order of their names.
-ghost use Rattle.std.specs.Prelude.{◌≡◌, ◌↔◌, ◌<◌, ℕ, List, IfOk, OnOk, Err, true};
+ghost use Rattle.std.specs.Prelude.{◌≡◌, ◌↔◌, ◌<◌, List, IfOk, OnOk, Err, true};
 ghost use Rattle.std.specs.List.{All};
 ghost use Rattle.std.specs.Option.{option_map};
 ghost use Rattle.aj_outside.specs.Counts.{ComesWithRise, last_count};

@@ -4,8 +4,8 @@ use Rattle.machine_steps.specs.Runs.{answers_left}
 use Rattle.run_driver.specs.declared.report.Report.{Report}
 use Rattle.weave_plan.specs.Plan.{files_of}
 use Rattle.ajweave.specs.declared.stop.Stop.{Stop}
-use Rattle.ajweave.specs.Steps.{EndsOfRead, EndsMissing, run_of}
-use Rattle.ajweave.proofs.Outcomes.{passed_on, sizes_end, script_ends, classes_end, run_ends, sizes_missing, script_missing}
+use Rattle.ajweave.specs.Steps.{EndsOfRead, run_of}
+use Rattle.ajweave.proofs.Outcomes.{passed_on, sizes_end, script_ends, classes_end, run_ends}
 use Rattle.ajweave.proofs.run.run_read.Goals as goal
 
 pub returns-in_err-check_sizes-clause-ended : goal.returns-in_err-check_sizes-clause-ended
@@ -16,12 +16,6 @@ returns-in_err-check_sizes-clause-ended c =
     passed_on (λ (r : Result Report Stop). EndsOfRead r run inputs c.args.script) c.from_residual.result p.0 c.in_err-check_sizes.field-0.0 p.1 p.2
     (sizes_end run inputs c.args.script c.in_err-check_sizes.field-0.0 c.in_err-check_sizes.ensures.stopped)
 
-pub returns-in_err-check_sizes-clause-missing : goal.returns-in_err-check_sizes-clause-missing
-returns-in_err-check_sizes-clause-missing c = λ missing.
-    let p = err_from_is_err_and c.from_residual.result c.from_residual.ensures.1 in
-    passed_on EndsMissing c.from_residual.result p.0 c.in_err-check_sizes.field-0.0 p.1 p.2
-    (sizes_missing c.args.words.input.now (files_of c.args.inputs.now) c.in_err-check_sizes.field-0.0 c.in_err-check_sizes.ensures.stopped)
-
 pub returns-in_err-script-clause-ended : goal.returns-in_err-script-clause-ended
 returns-in_err-script-clause-ended c =
     let run = run_of c.args.words in
@@ -29,12 +23,6 @@ returns-in_err-script-clause-ended c =
     let p = err_from_is_err_and c.from_residual-in_err-script.result c.from_residual-in_err-script.ensures.1 in
     passed_on (λ (r : Result Report Stop). EndsOfRead r run inputs c.args.script) c.from_residual-in_err-script.result p.0 c.in_err-script.field-0.0 p.1 p.2
     (script_ends run inputs c.args.script c.in_err-script.field-0.0 c.in_ok-check_sizes.ensures.small c.in_err-script.ensures.stopped)
-
-pub returns-in_err-script-clause-missing : goal.returns-in_err-script-clause-missing
-returns-in_err-script-clause-missing c = λ missing.
-    let p = err_from_is_err_and c.from_residual-in_err-script.result c.from_residual-in_err-script.ensures.1 in
-    passed_on EndsMissing c.from_residual-in_err-script.result p.0 c.in_err-script.field-0.0 p.1 p.2
-    (script_missing c.args.script c.in_err-script.field-0.0 missing c.in_err-script.ensures.stopped)
 
 pub returns-in_err-classes-clause-ended : goal.returns-in_err-classes-clause-ended
 returns-in_err-classes-clause-ended c =

@@ -1,4 +1,4 @@
-use Rattle.std.proofs.Common.{◌≤◌, List, Ok, Err, ℕ, length, sym, subst, arith}
+use Rattle.std.proofs.Common.{◌≤◌, List, Ok, Err, ℕ, length, subst, arith}
 use Rattle.run_lines.specs.declared.fault.ScriptFault.TheVariants as faults
 use Rattle.run_lines.specs.ScriptLines.{ReadsScript}
 use Rattle.ajweave.proofs.Scripts.{lines_taken, line_refused}

@@ -9,7 +9,7 @@ pub returns-in-Ok-Some : goal.returns-in-Ok-Some
 returns-in-Ok-Some g c =
     let found = rw c.in-Ok-Some.field-0-is at c.in-Ok-Some.ensures in
     let ended = c.run_command-ended.ensures in
-    let a = RunAnswered-run (texts c.args.words.now) (g.S.Shelf.held c.args.shelf.now) (run_of c.in-Ok-Some.run') c.run_command-ended.result c.report_run.result (g.O.Sink.written c.args.out.now) (g.O.Sink.written c.report_run.new.out) (g.S.Shelf.faults c.args.shelf.now) (g.S.Shelf.faults c.run_command-ended.new.shelf) (g.S.Shelf.missing c.args.shelf.now) (g.S.Shelf.missing c.run_command-ended.new.shelf) (record { says = found.0; only = found.1; ends = ended.ended; read = ended.read; failed = ended.failed; missed = ended.missed; lost = ended.no_script }) c.report_run.ensures.reported in
+    let a = RunAnswered-run (texts c.args.words.now) (g.S.Shelf.held c.args.shelf.now) (run_of c.in-Ok-Some.run') c.run_command-ended.result c.report_run.result (g.O.Sink.written c.args.out.now) (g.O.Sink.written c.report_run.new.out) (g.S.Shelf.faults c.args.shelf.now) (g.S.Shelf.faults c.run_command-ended.new.shelf) (g.S.Shelf.missing c.args.shelf.now) (g.S.Shelf.missing c.run_command-ended.new.shelf) (record { says = found.0; only = found.1; ends = ended.ended; own = ended.own; read = ended.read; failed = ended.failed; missed = ended.missed; lost = ended.no_script }) c.report_run.ensures.reported in
     record {
       usage = a.usage;
       usage_only = a.usage_only;

@@ -62,7 +62,7 @@ returns-in-Some g c =
     let reported = c.report.ensures.reported in
     let no_run = weaving_says_no_run words (record { input = c.in-Some.command.input.now; output = c.in-Some.command.output.now }) c.in-Some.ensures.read in
     let read = read_fault ended result before now _ reported c.weave-ended.ensures.read in
-    let a = Answered-command words (command_of words) (record { input = c.in-Some.command.input.now; output = c.in-Some.command.output.now }) held (g.S.Shelf.held c.weave-ended.new.shelf) ended result before now c.in-Some.ensures.read reported c.weave-ended.ensures.ended in
+    let a = Answered-command words (command_of words) (record { input = c.in-Some.command.input.now; output = c.in-Some.command.output.now }) held (g.S.Shelf.held c.weave-ended.new.shelf) ended result before now c.in-Some.ensures.read reported c.weave-ended.ensures.ended c.weave-ended.ensures.own in
     record {
       headline = a.headline;
       behaves = a.behaves;
