@@ -4,7 +4,13 @@
 #[cfg(test)]
 mod classes;
 #[cfg(test)]
+mod endings;
+#[cfg(test)]
+mod exceptions;
+#[cfg(test)]
 mod refusals;
+#[cfg(test)]
+mod running;
 #[cfg(test)]
 mod runs;
 #[cfg(test)]

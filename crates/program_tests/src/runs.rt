@@ -53,12 +53,13 @@ pub(crate) fn weave(alloc: Global, named: &[(&str, &[u8])]) -> Result<Outcome, A
     run(alloc, &["weave", "in", "out"], named, &[], &[])
 }
 
-/// Weaves files that are told by their whole names.
-pub(crate) fn weave_files(
+/// Runs the words over files that are told by their whole names.
+pub(crate) fn run_files(
     alloc: Global,
+    texts: &[&str],
     files: Vec<(Name, Vec<u8>)>,
 ) -> Result<Outcome, AllocError> {
-    let words = words(alloc, &["weave", "in", "out"])?;
+    let words = words(alloc, texts)?;
     let mut shelf = MemShelf::new(files, Vec::new(alloc))?;
     let mut printed = MemSink::new(Vec::new(alloc));
     let status = weaver_main(alloc, words.as_slice(), &mut shelf, &mut printed).code();
@@ -67,6 +68,19 @@ pub(crate) fn weave_files(
         shelf,
         printed,
     })
+}
+
+/// Weaves files that are told by their whole names.
+pub(crate) fn weave_files(
+    alloc: Global,
+    files: Vec<(Name, Vec<u8>)>,
+) -> Result<Outcome, AllocError> {
+    run_files(alloc, &["weave", "in", "out"], files)
+}
+
+/// Whether the command ended so and printed this text.
+pub(crate) fn answers(left: &Outcome, status: u8, text: &str) -> bool {
+    left.status == status && left.printed.bytes() == text.as_bytes()
 }
 
 /// Whether the run was refused with this line, and left the shelf with so many files.

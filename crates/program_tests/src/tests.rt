@@ -91,7 +91,7 @@ fn failing_prints(rt: HostRuntime) -> Result<(), Fail> {
 }
 
 /// Words that are no command.
-const NO_COMMANDS: [&[&str]; 9] = [
+const NO_COMMANDS: [&[&str]; 13] = [
     &[],
     &["weave"],
     &["weave", "in"],
@@ -100,7 +100,11 @@ const NO_COMMANDS: [&[&str]; 9] = [
     &["weave", "in", "-o"],
     &["Weave", "in", "out"],
     &["--help"],
+    &["run", "in", "C.main()"],
+    &["run", "in", "C.main", "6"],
     &["run", "in", "C.main()", "06"],
+    &["run", "in", "C.main()", "18446744073709551616"],
+    &["run", "in", "C.main()", "6", "s", "x"],
 ];
 
 const USAGE: &[u8] =

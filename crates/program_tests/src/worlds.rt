@@ -11,7 +11,7 @@ use std::test::Fail;
 
 /// The class file of a text; no bytes, where the text is none.
 #[tactic(auto, using(crate::proofs::Writable::writable))]
-fn class_file(alloc: Global, text: &str) -> Result<Vec<u8>, AllocError> {
+pub(crate) fn class_file(alloc: Global, text: &str) -> Result<Vec<u8>, AllocError> {
     match to_class(alloc, text.as_bytes()) {
         Ok(class) => write_class(alloc, &class),
         Err(TextFault::Line(_)) => Ok(Vec::new(alloc)),
@@ -20,7 +20,7 @@ fn class_file(alloc: Global, text: &str) -> Result<Vec<u8>, AllocError> {
 }
 
 /// The files of these classes, named by their places.
-fn files_of(alloc: Global, classes: &[&str]) -> Result<Vec<(Name, Vec<u8>)>, AllocError> {
+pub(crate) fn files_of(alloc: Global, classes: &[&str]) -> Result<Vec<(Name, Vec<u8>)>, AllocError> {
     let mut files = Vec::new(alloc);
     for (place, text) in classes.iter().enumerate() {
         let name = format!(in alloc; "in/{place}.class")?;
