@@ -20,7 +20,10 @@ pub(crate) fn class_file(alloc: Global, text: &str) -> Result<Vec<u8>, AllocErro
 }
 
 /// The files of these classes, named by their places.
-pub(crate) fn files_of(alloc: Global, classes: &[&str]) -> Result<Vec<(Name, Vec<u8>)>, AllocError> {
+pub(crate) fn files_of(
+    alloc: Global,
+    classes: &[&str],
+) -> Result<Vec<(Name, Vec<u8>)>, AllocError> {
     let mut files = Vec::new(alloc);
     for (place, text) in classes.iter().enumerate() {
         let name = format!(in alloc; "in/{place}.class")?;
