@@ -60,7 +60,12 @@ method static main (){returned} stack 8 locals 2
 {code}
 end"
     )?;
-    let files = files_of(alloc, &[class.as_str(), OTHERS[0], OTHERS[1], OTHERS[2]])?;
+    let mut classes = Vec::new(alloc);
+    classes.push(class.as_str())?;
+    for other in OTHERS {
+        classes.push(other)?;
+    }
+    let files = files_of(alloc, classes.as_slice())?;
     run_files(alloc, &["run", "in", "C.main()", "1000"], files)
 }
 
