@@ -1,18 +1,8 @@
-//! Tests of the whole program over shelves and sinks in memory.
+//! Tests of the whole program over shelves and sinks in memory: what is woven, and what is refused.
 #![tactic(auto)]
 
 #[cfg(test)]
-mod classes;
-#[cfg(test)]
-mod endings;
-#[cfg(test)]
-mod exceptions;
-#[cfg(test)]
 mod refusals;
-#[cfg(test)]
-mod running;
-#[cfg(test)]
-mod runs;
 #[cfg(test)]
 mod tests;
 #[cfg(test)]

@@ -1,8 +1,8 @@
 //! One input for each refusal, with its line.
 
-use crate::classes::{ASPECT, C, D};
-use crate::runs::{Outcome, is_refused, weave, weave_files};
 use aj_outside::Name;
+use program_runs::classes::{ASPECT, C, D};
+use program_runs::runs::{Outcome, is_refused, weave, weave_files};
 use std::alloc::{AllocError, Global};
 use std::test::Fail;
 

@@ -1,5 +1,5 @@
-use crate::classes::{ASPECT, C, C_WOVEN, D, SEVERAL, SEVERAL_WOVEN, T};
-use crate::runs::{holds, leaves, run, weave};
+use program_runs::classes::{ASPECT, C, C_WOVEN, D, SEVERAL, SEVERAL_WOVEN, T};
+use program_runs::runs::{holds, leaves, run, weave};
 use std::alloc::{AllocError, Global};
 use std::test::Fail;
 

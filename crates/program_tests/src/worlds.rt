@@ -1,36 +1,12 @@
 //! Folders whose classes have a fault together, one input for each fault with its line, and a folder of
 //! classes that stand on one another. The classes are written as class text.
 
-use crate::classes::{ASPECT, C};
-use crate::runs::{Outcome, holds, is_refused, leaves, weave_files};
 use aj_outside::Name;
-use class_format::write_class;
-use class_text::{TextFault, to_class};
+use program_runs::classes::{ASPECT, C};
+use program_runs::runs::{Outcome, holds, is_refused, leaves, weave_files};
+use program_runs::texts::{class_file, files_of};
 use std::alloc::{AllocError, Global};
 use std::test::Fail;
-
-/// The class file of a text; no bytes, where the text is none.
-#[tactic(auto, using(crate::proofs::Writable::writable))]
-pub(crate) fn class_file(alloc: Global, text: &str) -> Result<Vec<u8>, AllocError> {
-    match to_class(alloc, text.as_bytes()) {
-        Ok(class) => write_class(alloc, &class),
-        Err(TextFault::Line(_)) => Ok(Vec::new(alloc)),
-        Err(TextFault::Memory) => Err(AllocError),
-    }
-}
-
-/// The files of these classes, named by their places.
-pub(crate) fn files_of(
-    alloc: Global,
-    classes: &[&str],
-) -> Result<Vec<(Name, Vec<u8>)>, AllocError> {
-    let mut files = Vec::new(alloc);
-    for (place, text) in classes.iter().enumerate() {
-        let name = format!(in alloc; "in/{place}.class")?;
-        files.push((Name::from_string(name), class_file(alloc, text)?))?;
-    }
-    Ok(files)
-}
 
 /// Weaves these classes.
 fn weave_classes(alloc: Global, classes: &[&str]) -> Result<Outcome, AllocError> {

@@ -1,7 +1,7 @@
 //! The command `run`: what is printed of a run, and what is refused before one.
 
-use crate::classes::{ASPECT, C};
-use crate::runs::{answers, holds, run, weave};
+use program_runs::classes::{ASPECT, C};
+use program_runs::runs::{answers, holds, run, weave};
 use std::alloc::{AllocError, Global};
 use std::test::Fail;
 

@@ -1,7 +1,7 @@
 //! One small program for each exception that the machine makes: it is caught, and its class is printed.
 
 use crate::endings::run_main;
-use crate::runs::answers;
+use program_runs::runs::answers;
 use std::alloc::{AllocError, Global};
 use std::test::Fail;
 

@@ -1,7 +1,7 @@
 //! One small program for each way in which a run ends.
 
-use crate::runs::{Outcome, answers, run, run_files};
-use crate::worlds::{class_file, files_of};
+use program_runs::runs::{Outcome, answers, run, run_files};
+use program_runs::texts::{class_file, files_of};
 use std::alloc::{AllocError, Global};
 use std::test::Fail;
 

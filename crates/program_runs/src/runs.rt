@@ -6,10 +6,10 @@ use std::alloc::{AllocError, Global};
 
 /// What a command leaves.
 #[derive(Drop)]
-pub(crate) struct Outcome {
-    pub(crate) status: u8,
-    pub(crate) shelf: MemShelf,
-    pub(crate) printed: MemSink,
+pub struct Outcome {
+    pub status: u8,
+    pub shelf: MemShelf,
+    pub printed: MemSink,
 }
 
 fn words(alloc: Global, texts: &[&str]) -> Result<Vec<String>, AllocError> {
@@ -29,7 +29,7 @@ fn files(alloc: Global, named: &[(&str, &[u8])]) -> Result<Vec<(Name, Vec<u8>)>,
 }
 
 /// Runs the words over these files; the calls of the shelf and of the sink with these numbers fail.
-pub(crate) fn run(
+pub fn run(
     alloc: Global,
     texts: &[&str],
     named: &[(&str, &[u8])],
@@ -49,12 +49,12 @@ pub(crate) fn run(
 }
 
 /// Weaves these files of the folder `in` to the folder `out`.
-pub(crate) fn weave(alloc: Global, named: &[(&str, &[u8])]) -> Result<Outcome, AllocError> {
+pub fn weave(alloc: Global, named: &[(&str, &[u8])]) -> Result<Outcome, AllocError> {
     run(alloc, &["weave", "in", "out"], named, &[], &[])
 }
 
 /// Runs the words over files that are told by their whole names.
-pub(crate) fn run_files(
+pub fn run_files(
     alloc: Global,
     texts: &[&str],
     files: Vec<(Name, Vec<u8>)>,
@@ -71,25 +71,22 @@ pub(crate) fn run_files(
 }
 
 /// Weaves files that are told by their whole names.
-pub(crate) fn weave_files(
-    alloc: Global,
-    files: Vec<(Name, Vec<u8>)>,
-) -> Result<Outcome, AllocError> {
+pub fn weave_files(alloc: Global, files: Vec<(Name, Vec<u8>)>) -> Result<Outcome, AllocError> {
     run_files(alloc, &["weave", "in", "out"], files)
 }
 
 /// Whether the command ended so and printed this text.
-pub(crate) fn answers(left: &Outcome, status: u8, text: &str) -> bool {
+pub fn answers(left: &Outcome, status: u8, text: &str) -> bool {
     left.status == status && left.printed.bytes() == text.as_bytes()
 }
 
 /// Whether the run was refused with this line, and left the shelf with so many files.
-pub(crate) fn is_refused(left: &Outcome, line: &str, files: usize) -> bool {
+pub fn is_refused(left: &Outcome, line: &str, files: usize) -> bool {
     left.status == 1 && left.printed.bytes() == line.as_bytes() && left.shelf.len() == files
 }
 
 /// Whether the shelf has exactly these bytes under the name.
-pub(crate) fn holds(left: &Outcome, name: &str, bytes: &[u8]) -> bool {
+pub fn holds(left: &Outcome, name: &str, bytes: &[u8]) -> bool {
     match left.shelf.file(name) {
         None => false,
         Some(found) => found == bytes,
@@ -97,7 +94,7 @@ pub(crate) fn holds(left: &Outcome, name: &str, bytes: &[u8]) -> bool {
 }
 
 /// Whether the run succeeded and printed nothing, and left the shelf with so many files, among them these.
-pub(crate) fn leaves(left: &Outcome, count: usize, files: &[(&str, &[u8])]) -> bool {
+pub fn leaves(left: &Outcome, count: usize, files: &[(&str, &[u8])]) -> bool {
     for (name, bytes) in files {
         if !holds(left, name, bytes) {
             return false;

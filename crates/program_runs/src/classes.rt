@@ -2,11 +2,11 @@
 //! only the format and the rule: a call of the advice's method stands before each matching call.
 
 /// The aspect whose advice prints a before each call of C's m.
-pub(crate) const ASPECT: &[u8] =
+pub const ASPECT: &[u8] =
     b"aspect T {\n\tbefore(): call(void C.m()) {\n    System.out.println(\"a\");\n  }\n}\n";
 
 /// Class C with `m`, which prints m, and `main`, which calls m.
-pub(crate) const C: [u8; 286] = [
+pub const C: [u8; 286] = [
     202, 254, 186, 190, 0, 0, 0, 48, 0, 24, 1, 0, 1, 67, 7, 0, 1, 1, 0, 16, 106, 97, 118, 97, 47,
     108, 97, 110, 103, 47, 79, 98, 106, 101, 99, 116, 7, 0, 3, 1, 0, 3, 111, 117, 116, 1, 0, 21,
     76, 106, 97, 118, 97, 47, 105, 111, 47, 80, 114, 105, 110, 116, 83, 116, 114, 101, 97, 109, 59,
@@ -22,7 +22,7 @@ pub(crate) const C: [u8; 286] = [
 ];
 
 /// C with the aspect T's advice before the call of m.
-pub(crate) const C_WOVEN: [u8; 327] = [
+pub const C_WOVEN: [u8; 327] = [
     202, 254, 186, 190, 0, 0, 0, 48, 0, 30, 1, 0, 1, 67, 7, 0, 1, 1, 0, 16, 106, 97, 118, 97, 47,
     108, 97, 110, 103, 47, 79, 98, 106, 101, 99, 116, 7, 0, 3, 1, 0, 3, 111, 117, 116, 1, 0, 21,
     76, 106, 97, 118, 97, 47, 105, 111, 47, 80, 114, 105, 110, 116, 83, 116, 114, 101, 97, 109, 59,
@@ -40,7 +40,7 @@ pub(crate) const C_WOVEN: [u8; 327] = [
 ];
 
 /// The class of the aspect T, whose advice prints a.
-pub(crate) const T: [u8; 254] = [
+pub const T: [u8; 254] = [
     202, 254, 186, 190, 0, 0, 0, 46, 0, 22, 1, 0, 1, 84, 7, 0, 1, 1, 0, 16, 106, 97, 118, 97, 47,
     108, 97, 110, 103, 47, 79, 98, 106, 101, 99, 116, 7, 0, 3, 1, 0, 12, 97, 106, 99, 36, 98, 101,
     102, 111, 114, 101, 36, 49, 1, 0, 3, 40, 41, 86, 1, 0, 4, 67, 111, 100, 101, 1, 0, 16, 106, 97,
@@ -55,7 +55,7 @@ pub(crate) const T: [u8; 254] = [
 ];
 
 /// Class C with `m`, `n` and a `main` that calls m, n, m, prints x and calls m.
-pub(crate) const SEVERAL: [u8; 362] = [
+pub const SEVERAL: [u8; 362] = [
     202, 254, 186, 190, 0, 0, 0, 48, 0, 30, 1, 0, 1, 67, 7, 0, 1, 1, 0, 16, 106, 97, 118, 97, 47,
     108, 97, 110, 103, 47, 79, 98, 106, 101, 99, 116, 7, 0, 3, 1, 0, 3, 111, 117, 116, 1, 0, 21,
     76, 106, 97, 118, 97, 47, 105, 111, 47, 80, 114, 105, 110, 116, 83, 116, 114, 101, 97, 109, 59,
@@ -74,7 +74,7 @@ pub(crate) const SEVERAL: [u8; 362] = [
 ];
 
 /// SEVERAL with the advice before each of the three calls of m.
-pub(crate) const SEVERAL_WOVEN: [u8; 409] = [
+pub const SEVERAL_WOVEN: [u8; 409] = [
     202, 254, 186, 190, 0, 0, 0, 48, 0, 36, 1, 0, 1, 67, 7, 0, 1, 1, 0, 16, 106, 97, 118, 97, 47,
     108, 97, 110, 103, 47, 79, 98, 106, 101, 99, 116, 7, 0, 3, 1, 0, 3, 111, 117, 116, 1, 0, 21,
     76, 106, 97, 118, 97, 47, 105, 111, 47, 80, 114, 105, 110, 116, 83, 116, 114, 101, 97, 109, 59,
@@ -95,7 +95,7 @@ pub(crate) const SEVERAL_WOVEN: [u8; 409] = [
 ];
 
 /// Class D, whose pool has unused and repeated entries, a long and a float, in no usual order, with a class attribute.
-pub(crate) const D: [u8; 298] = [
+pub const D: [u8; 298] = [
     202, 254, 186, 190, 0, 3, 0, 49, 0, 28, 1, 0, 6, 117, 110, 117, 115, 101, 100, 5, 255, 255,
     255, 255, 255, 255, 255, 249, 1, 0, 4, 67, 111, 100, 101, 1, 0, 1, 100, 1, 0, 3, 40, 41, 86, 7,
     0, 8, 1, 0, 16, 106, 97, 118, 97, 47, 108, 97, 110, 103, 47, 79, 98, 106, 101, 99, 116, 7, 0,
