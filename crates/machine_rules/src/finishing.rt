@@ -4,8 +4,6 @@ ghost use Rattle.std.specs.Prelude.{◌≡◌, ◌<◌, ◌++◌, true, length, 
 ghost use Rattle.std.specs.Option.{option_map};
 ghost use Rattle.class_world.specs.Tables.{Known};
 ghost use Rattle.class_machine.specs.LibraryCalls as calls;
-ghost use Rattle.class_machine.specs.LibraryCalls.{line_feed};
-ghost use Rattle.machine_values.specs.declared.observed.Event.TheVariants.{Print};
 ghost use Rattle.machine_values.specs.Standing.{name_of};
 ghost use Rattle.machine_values.specs.States.{is_known_destination, is_known_object};
 ghost use Rattle.machine_requests.specs.Objects.{AreFilled};
@@ -23,19 +21,7 @@ use crate::strings::{give_text, units_at};
 use crate::work::Work;
 use class_world::World;
 use machine_values::{Destination, Event, Heap, Name, Ref, Value};
-use sqlite_items::Items;
 use std::alloc::{AllocError, Global};
-
-// The event of a text that is printed, with a line feed or without.
-fn printed(alloc: Global, units: &[u16], line: bool) -> Result<Event, AllocError>
-    ensures { IfOk result (λ event. event ≡ Print (units.now ++ line_feed line)) }
-{
-    let mut text = Vec::from_slice(alloc, units)?;
-    if line {
-        text.push(10)?;
-    }
-    Ok(Event::Print(Items::from_vec(text)))
-}
 
 fn is_made(heap: &Heap, at: Ref) -> bool
     requires { at.0 < length heap.now.names }
@@ -113,7 +99,7 @@ pub(crate) fn finish_units(
 {
     match to {
         Destination::Prints(line) => {
-            let event = printed(alloc, units, line)?;
+            let event = Event::printed(alloc, units, line)?;
             Ok(Work::Results(Some(event), None))
         }
         Destination::Appends(buffer) => append_and_give(heap, buffer, units),
@@ -169,7 +155,7 @@ pub(crate) fn finish_made(
 {
     match to {
         Destination::Prints(line) => {
-            let event = printed(alloc, units, line)?;
+            let event = Event::printed(alloc, units, line)?;
             make_string(heap, world, units)?;
             Ok(Work::Results(Some(event), None))
         }

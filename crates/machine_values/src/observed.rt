@@ -1,6 +1,11 @@
 //! What is observed of a run.
 
+ghost use Rattle.std.specs.Prelude.{◌≡◌, ◌++◌, IfOk};
+ghost use Rattle.class_machine.specs.LibraryCalls.{line_feed};
+ghost use Rattle.machine_values.specs.declared.observed.Event.TheVariants.{Print};
+
 use aj_names::{FieldType, InternalName, Items, MethodName};
+use std::alloc::{AllocError, Global};
 
 /// A value as an event or an ending shows it.
 #[derive(Drop)]
@@ -29,6 +34,19 @@ pub enum Event {
     Print(Items<u16>),
     /// A native method is called. The receiver of an instance method is the first value.
     Native(MethodName, Items<Shown>),
+}
+
+impl Event {
+    /// The event of a text that is printed, with a line feed behind it or without.
+    pub fn printed(alloc: Global, units: &[u16], line: bool) -> Result<Event, AllocError>
+        ensures { IfOk result (λ event. event ≡ Print (units.now ++ line_feed line)) }
+    {
+        let mut text = Vec::from_slice(alloc, units)?;
+        if line {
+            text.push(10)?;
+        }
+        Ok(Event::Print(Items::from_vec(text)))
+    }
 }
 
 /// How a run ends.
